@@ -4,8 +4,7 @@ ghost use Rattle.std.specs.Prelude.{◌<◌};
 ghost use Rattle.std.specs.Thread.{IsSync};
 ghost use Rattle.rh_crew.specs.Worked.{HaveWorked};
 ghost use Rattle.rh_shared.specs.Crews.{HasAll, SitsAt, IsFresh, views_of};
-ghost use Rattle.rh_shared.specs.Rests.{SeatRests};
-ghost use Rattle.rh_shared.specs.Seats.{IsSame};
+ghost use Rattle.rh_shared.specs.Rests.{SeatRests, StaysAtRest};
 ghost use Rattle.rh_rule.specs.Seats.{InView};
 
 use rh_shared::{Seat, Table, join, split, wipe};
@@ -16,9 +15,8 @@ use std::thread::Threads;
 pub trait Work<R, T> {
     /// The work of one worker, of whom nothing is owed afterwards.
     fn work(&self, rt: &R, table: &Table, seat: Seat) -> (Seat, T)
-        requires rests { SeatRests table.now seat }
-        ensures rests { SeatRests table.now result.0 }
-        ensures same { IsSame seat result.0 };
+        requires { SeatRests table.now seat }
+        ensures { StaysAtRest table.now seat result.0 };
 
     /// What the workers of two seats tell together, those of the first seat before the others.
     fn both(&self, first: T, second: T) -> T;

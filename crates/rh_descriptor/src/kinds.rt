@@ -1,7 +1,7 @@
 //! The kinds of step by their names, each made on a slice of words by one worker.
 
 ghost use Rattle.std.specs.Prelude.{◌≡◌, length, option_map};
-ghost use Rattle.rh_words.specs.Parts.{IsShape, word_count};
+ghost use Rattle.rh_words.specs.Parts.{word_count};
 ghost use Rattle.rh_words.specs.Steps.{Allowed, Makes, StepsTo};
 ghost use Rattle.rh_words.specs.Steps.Step.{claims, decides, opens, places, reads, releases, settles, writes};
 ghost use Rattle.rh_words.specs.Words.{control_of, ref_of};
@@ -11,7 +11,6 @@ use rh_words::{Part, Piece, Reading, Ref, Request, Shape, Side, make_step};
 
 /// Writes a word of an own row.
 pub fn write_word(shape: &Shape, words: &mut [u64], side: &mut Side, part: Part, word: u64)
-    requires shape { IsShape shape.now }
     requires sized { length words.old ≡ word_count shape.now }
     requires allowed { Allowed shape.now side.old.known.view (writes part word) }
     ensures { Makes shape.now
@@ -22,7 +21,6 @@ pub fn write_word(shape: &Shape, words: &mut [u64], side: &mut Side, part: Part,
 
 /// Opens the next own descriptor, whose row says so many entries.
 pub fn open_desc(shape: &Shape, words: &mut [u64], side: &mut Side, entries: usize)
-    requires shape { IsShape shape.now }
     requires sized { length words.old ≡ word_count shape.now }
     requires allowed { Allowed shape.now side.old.known.view (opens entries) }
     ensures { Makes shape.now
@@ -33,7 +31,6 @@ pub fn open_desc(shape: &Shape, words: &mut [u64], side: &mut Side, entries: usi
 
 /// Reads a word.
 pub fn read_word(shape: &Shape, words: &mut [u64], side: &mut Side, reading: Reading) -> u64
-    requires shape { IsShape shape.now }
     requires sized { length words.old ≡ word_count shape.now }
     requires allowed { Allowed shape.now side.old.known.view (reads reading) }
     ensures { StepsTo shape.now (reads reading) words.old side.old.known.view result words.new
@@ -45,7 +42,6 @@ pub fn read_word(shape: &Shape, words: &mut [u64], side: &mut Side, reading: Rea
 /// Swaps a cell from the old value of an entry to the next own mark. Answers the word that stood
 /// there.
 pub fn place_mark(shape: &Shape, words: &mut [u64], side: &mut Side, piece: Piece, old: u64) -> u64
-    requires shape { IsShape shape.now }
     requires sized { length words.old ≡ word_count shape.now }
     requires allowed { Allowed shape.now side.old.known.view
         (places (ref_of piece.desc) piece.entry piece.cell old) }
@@ -65,7 +61,6 @@ pub fn settle_mark(
     piece: Piece,
     old: Option<u64>,
 ) -> u64
-    requires shape { IsShape shape.now }
     requires sized { length words.old ≡ word_count shape.now }
     requires allowed { Allowed shape.now side.old.known.view
         (settles (ref_of mark) piece.cell (ref_of piece.desc) piece.entry old) }
@@ -85,7 +80,6 @@ pub fn decide_desc(
     desc: Ref,
     state: State,
 ) -> u64
-    requires shape { IsShape shape.now }
     requires sized { length words.old ≡ word_count shape.now }
     requires allowed { Allowed shape.now side.old.known.view
         (decides (ref_of desc) (control_of state)) }
@@ -105,7 +99,6 @@ pub fn release_cell(
     state: Option<State>,
     value: u64,
 ) -> u64
-    requires shape { IsShape shape.now }
     requires sized { length words.old ≡ word_count shape.now }
     requires allowed { Allowed shape.now side.old.known.view
         (releases (ref_of piece.desc) piece.entry piece.cell (option_map control_of state) value) }
@@ -128,7 +121,6 @@ pub fn release_cell(
 /// Takes the next position of the list of keys, by an increment of the counter. Answers the
 /// position.
 pub fn claim_key(shape: &Shape, words: &mut [u64], side: &mut Side) -> u64
-    requires shape { IsShape shape.now }
     requires sized { length words.old ≡ word_count shape.now }
     requires allowed { Allowed shape.now side.old.known.view claims }
     ensures { StepsTo shape.now claims words.old side.old.known.view result words.new

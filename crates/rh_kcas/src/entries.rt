@@ -1,7 +1,6 @@
 //! Entries of values, and whether a descriptor may have them.
 
 ghost use Rattle.std.specs.Prelude.{◌≡◌, ◌<◌, ◌↔◌, IsTrue, length};
-ghost use Rattle.rh_words.specs.Parts.{IsShape};
 ghost use Rattle.rh_words.specs.Steps.{AreEntries};
 ghost use Rattle.rh_words.specs.Words.{IsPlain};
 ghost use Rattle.rh_kcas.specs.Fits.{Fits, IsBehind};
@@ -27,7 +26,6 @@ pub fn change(cell: usize, old: u64, new: u64) -> Entry
 /// Whether a descriptor may have these entries: there is one, their cells rise and are cells of the
 /// table, and their words are plain.
 pub fn are_entries(shape: &Shape, entries: &[Entry]) -> bool
-    requires { IsShape shape.now }
     ensures { IsTrue result ↔ AreEntries shape.now entries.now }
 {
     if entries.is_empty() {
@@ -42,8 +40,7 @@ pub fn are_entries(shape: &Shape, entries: &[Entry]) -> bool
 }
 
 fn fits(shape: &Shape, entries: &[Entry], entry: usize) -> bool
-    requires shape { IsShape shape.now }
-    requires entry { entry < length entries.now }
+    requires { entry < length entries.now }
     ensures { IsTrue result ↔ Fits shape.now entries.now entry }
 {
     if !is_behind(entries, entry) {

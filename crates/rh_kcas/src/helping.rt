@@ -4,11 +4,11 @@ ghost use Rattle.std.specs.Prelude.{◌≡◌};
 ghost use Rattle.rh_words.specs.Steps.{IsKnown};
 ghost use Rattle.rh_words.specs.Words.{ref_of};
 ghost use Rattle.rh_steps.specs.Own.{IsClear};
-ghost use Rattle.rh_shared.specs.Rests.{SeatRests};
+ghost use Rattle.rh_shared.specs.Rests.{SeatRests, StaysAtRest};
 ghost use Rattle.rh_swaps.specs.Swaps.{HasNoted};
 ghost use Rattle.rh_kcas.specs.Helps.{HasHelped, IsTold, is_over};
-ghost use Rattle.rh_shared.specs.Seats.{IsSame, view_of};
-ghost use Rattle.rh_shared.specs.Sits.{Sits, Stays};
+ghost use Rattle.rh_shared.specs.Seats.{view_of};
+ghost use Rattle.rh_shared.specs.Sits.{Sits, StaysTrusted};
 ghost use Rattle.rh_rule.specs.Rest.{made};
 ghost use Rattle.rh_steps.specs.Relies.{Trusts};
 
@@ -24,8 +24,7 @@ use std::sync::Wait;
 pub fn help<R: Wait>(rt: &R, table: &Table, seat: &mut Seat, desc: Ref)
     requires rests { SeatRests table.now seat.old }
     requires known { IsKnown (view_of seat.old).side.facts (ref_of desc) }
-    ensures rests { SeatRests table.now seat.new }
-    ensures same { IsSame seat.old seat.new }
+    ensures stays { StaysAtRest table.now seat.old seat.new }
     ensures acts { made (view_of seat.new) ≡ made (view_of seat.old) }
     ensures helps { HasHelped table.now.shape (ref_of desc) (view_of seat.old) (view_of seat.new) }
 {
@@ -40,9 +39,8 @@ fn go_about<R: Wait>(rt: &R, shape: &Shape, here: &mut OnTable, side: &mut Side,
     requires trusts { Trusts Sits shape.now here.old side.old.known.view }
     requires clear { IsClear side.old.known.view }
     requires known { IsKnown side.old.known.view.side.facts (ref_of desc) }
-    ensures trusts { Trusts Sits shape.now here.new side.new.known.view }
+    ensures stays { StaysTrusted shape.now here.old here.new side.new.known.view }
     ensures clear { IsClear side.new.known.view }
-    ensures stays { Stays here.old here.new }
     ensures helps { HasHelped shape.now (ref_of desc) side.old.known.view side.new.known.view }
 {
     let mut machine = Machine::about(desc);
@@ -70,9 +68,8 @@ fn state(shape: &Shape, here: &mut OnTable, side: &mut Side, desc: Ref) -> Optio
     requires trusts { Trusts Sits shape.now here.old side.old.known.view }
     requires clear { IsClear side.old.known.view }
     requires known { IsKnown side.old.known.view.side.facts (ref_of desc) }
-    ensures trusts { Trusts Sits shape.now here.new side.new.known.view }
+    ensures stays { StaysTrusted shape.now here.old here.new side.new.known.view }
     ensures clear { IsClear side.new.known.view }
-    ensures stays { Stays here.old here.new }
     ensures told { IsTold side.new.known.view (ref_of desc) result }
     ensures facts { HasNoted side.old.known.view side.new.known.view }
 {

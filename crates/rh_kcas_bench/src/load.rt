@@ -1,8 +1,7 @@
 //! What each thread does: swaps that raise each of its cells by one.
 
-ghost use Rattle.std.specs.Prelude.{◌≡◌, ◌<◌, ◌≤◌};
-ghost use Rattle.rh_shared.specs.Rests.{SeatRests};
-ghost use Rattle.rh_shared.specs.Seats.{IsSame};
+ghost use Rattle.std.specs.Prelude.{◌<◌, ◌≤◌};
+ghost use Rattle.rh_shared.specs.Rests.{SeatRests, StaysAtRest};
 
 use rh_crew::Work;
 use rh_kcas::{Outcome, Seat, Table, are_entries, change, kcas, read};
@@ -76,8 +75,7 @@ impl<R: Wait + Clock> Work<R, Told> for Load {
 fn raise_often<R: Wait>(rt: &R, table: &Table, seat: &mut Seat, first: usize, count: usize) -> u64
     requires rests { SeatRests table.now seat.old }
     requires count { 0 < count }
-    ensures rests { SeatRests table.now seat.new }
-    ensures same { IsSame seat.old seat.new }
+    ensures stays { StaysAtRest table.now seat.old seat.new }
 {
     let mut entries = [change(0, 0, 0); MOST];
     let count = count.min(MOST);
@@ -117,8 +115,7 @@ fn see<R: Wait>(
 ) -> bool
     requires rests { SeatRests table.now seat.old }
     requires count { count ≤ 8 }
-    ensures rests { SeatRests table.now seat.new }
-    ensures same { IsSame seat.old seat.new }
+    ensures stays { StaysAtRest table.now seat.old seat.new }
 {
     for entry in 0..count {
         let cell = first.wrapping_add(entry);

@@ -3,7 +3,7 @@
 ghost use Rattle.std.specs.Prelude.{IsTrue};
 ghost use Rattle.rh_words.specs.Steps.{IsKnown};
 ghost use Rattle.rh_words.specs.Words.{ref_of};
-ghost use Rattle.rh_shared.specs.Rests.{SeatRests};
+ghost use Rattle.rh_shared.specs.Rests.{SeatKnows, SeatRests};
 ghost use Rattle.rh_kcas_tests.specs.Stale.{HasMet, HasSeen};
 ghost use Rattle.rh_shared.specs.Seats.{IsHere, view_of};
 ghost use Rattle.rh_steps.specs.Relies.{Knows};
@@ -86,8 +86,7 @@ fn placed(table: &Table, seat: &mut Seat, desc: Ref) -> Placed
 
 /// The words of the cells.
 fn words<R: Abort>(rt: &R, table: &Table, seat: &mut Seat) -> [u64; 8]
-    requires here { IsHere table.now seat.old }
-    requires knows { Knows table.now.shape (view_of seat.old) }
+    requires knows { SeatKnows table.now seat.old }
     ensures here { IsHere table.now seat.new }
     ensures knows { Knows table.now.shape (view_of seat.new) }
 {

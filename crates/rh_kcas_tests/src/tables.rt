@@ -1,10 +1,9 @@
 //! Tables of 8 cells, and the calls on them as the tests make them.
 
 ghost use Rattle.std.specs.Prelude.{◌≡◌, ◌<◌, ◌≤◌, ℕ, [], IfOk, IfSome, IsTrue, length, slice_index};
-ghost use Rattle.rh_words.specs.Parts.{IsShape, cell_count};
-ghost use Rattle.rh_shared.specs.Rests.{SeatRests};
+ghost use Rattle.rh_shared.specs.Rests.{SeatKnows, SeatRests, StaysAtRest};
 ghost use Rattle.rh_kcas_tests.specs.Rooms.{AreRooms};
-ghost use Rattle.rh_shared.specs.Seats.{IsHere, IsSame, view_of};
+ghost use Rattle.rh_shared.specs.Seats.{IsHere, view_of};
 ghost use Rattle.rh_steps.specs.Relies.{Knows};
 ghost use Rattle.rh_tagword.specs.Word.{IsValue};
 ghost use Rattle.rh_world.specs.World.{In};
@@ -23,9 +22,8 @@ use std::test::*;
 
 /// So many workers, with these rooms each.
 pub fn shape(workers: usize, rooms: Rooms, keys: u64) -> Shape
-    requires sizes { (workers ≤ 16) × (keys ≤ 1000) }
+    requires sizes { (0 < workers) × (workers ≤ 16) × (keys ≤ 1000) }
     requires rooms { AreRooms rooms }
-    ensures shape { IsShape result }
     ensures workers { result.workers ≡ workers }
     ensures bits { result.bits ≡ 3 }
     ensures keys { result.keys ≡ keys }
@@ -81,8 +79,7 @@ pub fn one_worker<R: Abort>(
 /// A swap of several cells.
 pub fn swap<R: Wait + Abort>(rt: &R, table: &Table, seat: &mut Seat, entries: &[Entry]) -> Outcome
     requires rests { SeatRests table.now seat.old }
-    ensures rests { SeatRests table.now seat.new }
-    ensures same { IsSame seat.old seat.new }
+    ensures stays { StaysAtRest table.now seat.old seat.new }
 {
     assert!(rt; are_entries(&table.shape, entries));
     kcas(rt, table, seat, entries)
@@ -91,8 +88,7 @@ pub fn swap<R: Wait + Abort>(rt: &R, table: &Table, seat: &mut Seat, entries: &[
 /// The value that a cell holds, or none where no mark is left.
 pub fn value<R: Wait + Abort>(rt: &R, table: &Table, seat: &mut Seat, cell: usize) -> Option<u64>
     requires rests { SeatRests table.now seat.old }
-    ensures rests { SeatRests table.now seat.new }
-    ensures same { IsSame seat.old seat.new }
+    ensures stays { StaysAtRest table.now seat.old seat.new }
     ensures value { IfSome result IsValue }
 {
     assert!(rt; cell < table.shape.cells());
@@ -165,8 +161,7 @@ pub fn close_two(table: Table, first: Seat, second: Seat) -> [u64; 8]
 
 /// The word that stands in a cell.
 pub fn peek<R: Abort>(rt: &R, table: &Table, seat: &mut Seat, cell: usize) -> u64
-    requires here { IsHere table.now seat.old }
-    requires knows { Knows table.now.shape (view_of seat.old) }
+    requires knows { SeatKnows table.now seat.old }
     ensures here { IsHere table.now seat.new }
     ensures knows { Knows table.now.shape (view_of seat.new) }
 {

@@ -1,8 +1,7 @@
 //! One worker's many random swaps, and what it is told of them.
 
-ghost use Rattle.std.specs.Prelude.{◌≡◌, ◌<◌};
-ghost use Rattle.rh_shared.specs.Rests.{SeatRests};
-ghost use Rattle.rh_shared.specs.Seats.{IsSame};
+ghost use Rattle.std.specs.Prelude.{◌<◌};
+ghost use Rattle.rh_shared.specs.Rests.{SeatRests, StaysAtRest};
 
 use crate::random::*;
 use crate::tables::*;
@@ -83,8 +82,7 @@ impl<R: Wait + Abort> Work<R, Told> for Swaps {
 /// Tries so many swaps, or fewer where the worker is spent.
 fn try_swaps<R: Wait + Abort>(rt: &R, table: &Table, seat: &mut Seat, swaps: Swaps) -> Told
     requires rests { SeatRests table.now seat.old }
-    ensures rests { SeatRests table.now seat.new }
-    ensures same { IsSame seat.old seat.new }
+    ensures stays { StaysAtRest table.now seat.old seat.new }
 {
     let mut told = Told::nothing();
     let counter = Counter::of(seat.side.worker);
@@ -113,8 +111,7 @@ fn try_swaps<R: Wait + Abort>(rt: &R, table: &Table, seat: &mut Seat, swaps: Swa
 /// Reads an account so often, and helps the swaps that are met there.
 fn look_about<R: Wait + Abort>(rt: &R, table: &Table, seat: &mut Seat, looks: u64)
     requires rests { SeatRests table.now seat.old }
-    ensures rests { SeatRests table.now seat.new }
-    ensures same { IsSame seat.old seat.new }
+    ensures stays { StaysAtRest table.now seat.old seat.new }
 {
     for looked in 0..looks {
         value(rt, table, seat, 0);
@@ -131,8 +128,7 @@ fn add<R: Wait + Abort>(
     counter: usize,
 ) -> (Outcome, Option<u64>)
     requires rests { SeatRests table.now seat.old }
-    ensures rests { SeatRests table.now seat.new }
-    ensures same { IsSame seat.old seat.new }
+    ensures stays { StaysAtRest table.now seat.old seat.new }
 {
     let mut entries = [change(0, 0, 0); CELLS];
     let mut count = 0;

@@ -3,8 +3,8 @@
 ghost use Rattle.std.specs.Prelude.{◌≡◌, ◌^◌, IfNone, IfSome, length};
 ghost use Rattle.rh_layout.specs.Key.{IsKey};
 ghost use Rattle.rh_run.specs.History.{own_acts_of};
-ghost use Rattle.rh_shared.specs.Rests.{SeatRests};
-ghost use Rattle.rh_shared.specs.Seats.{IsSame, view_of};
+ghost use Rattle.rh_shared.specs.Rests.{SeatRests, StaysAtRest};
+ghost use Rattle.rh_shared.specs.Seats.{view_of};
 ghost use Rattle.rh_threads.specs.Keys.{Furthers, KeySpec};
 ghost use Rattle.rh_worker.specs.Worker.{HasNoRoom};
 
@@ -35,8 +35,7 @@ pub fn do_key<R: Wait>(
     requires seen { length seen.old ≡ 2 ^ bits }
     requires news { length news.old ≡ 2 ^ bits }
     requires entries { length entries.old ≡ 2 ^ bits }
-    ensures rests { SeatRests table.now seat.new }
-    ensures same { IsSame seat.old seat.new }
+    ensures stays { StaysAtRest table.now seat.old seat.new }
     ensures claims { (view_of seat.new).side.claims ≡ (view_of seat.old).side.claims }
     ensures opening { (view_of seat.new).opening ≡ (view_of seat.old).opening }
     ensures furthers { Furthers table.now.shape kind key (view_of seat.old)

@@ -9,11 +9,10 @@ use Rattle.rh_layout.specs.Key.{IsBits}
 use Rattle.rh_layout.specs.Layout.{IsLayout, Layout, keys_of}
 use Rattle.rh_edit.proofs.SetLemmas.{keeps_empty, keys_of_empty}
 use Rattle.rh_words.specs.declared.shape.Rooms.{Rooms}
-use Rattle.rh_words.specs.declared.shape.Shape.{Shape}
 use Rattle.rh_turns.specs.Game.{Game}
 use Rattle.rh_stepper.specs.declared.fault.PlayFault.{PlayFault}
 use Rattle.rh_stepper.specs.declared.fault.PlayFault.TheVariants.{NoRoom}
-use Rattle.rh_stepper.specs.Start.{MakesPlayer, Refuses, StartsPieces, StartsShared, StartsWith, are_keys, keys_of_pieces, start_fault}
+use Rattle.rh_stepper.specs.Start.{HasSizes, MakesPlayer, Refuses, StartsPieces, StartsShared, StartsWith, are_keys, keys_of_pieces, start_fault}
 use Rattle.rh_play.specs.declared.play.Play.{Play}
 use Rattle.rh_play.specs.declared.play.Work.{Work}
 use Rattle.rh_play.specs.declared.play.Work.TheVariants.{Pieces, Share}
@@ -93,21 +92,20 @@ pub record Matches (play : Play) (work : Work) (cells : List ℕ) (g : Game) : T
   pub workers : length g.hands ≡ workers_in work
   pub some : 0 < workers_in work
 
-matches_start : (play : Play) (work : Work) (cells : List ℕ) (g : Game) (z : Shape) → z.bits ≡ bits_of play → z.workers ≡ workers_in work → StartsWith play.kind z cells (work_keys work) g → Matches play work cells g
-matches_start play work cells g z bits workers start =
-    let count : g.shape.workers ≡ workers_in work = ap (λ (s : Shape). s.workers) start.shape_is ∙ workers in
-    record {
-      kind = start.kind_is;
-      bits = ap (λ (s : Shape). s.bits) start.shape_is ∙ bits;
-      opening = start.opening_is;
-      keys = start.keys_are;
-      workers = start.starts.workers ∙ count;
-      some = subst (λ (n : ℕ). 0 < n) count start.starts.some;
-    }
+matches_start : (play : Play) (work : Work) (cells : List ℕ) (g : Game) (rooms : Rooms) (shared : ℕ) → HasSizes (bits_of play) (workers_in work) rooms shared g.shape
+    → StartsWith play.kind cells (work_keys work) g → Matches play work cells g
+matches_start play work cells g rooms shared sizes start = record {
+  kind = start.kind_is;
+  bits = sizes.bits_are;
+  opening = start.opening_is;
+  keys = start.keys_are;
+  workers = start.starts.workers ∙ sizes.workers_are;
+  some = subst (λ (n : ℕ). 0 < n) sizes.workers_are g.shape.some_worker;
+}
 
 pub matches : (play : Play) (work : Work) (cells : List ℕ) (g : Game) → StartsOn cells play work g → Matches play work cells g
-matches play (Pieces pieces) cells g starts = matches_start play (Pieces pieces) cells g _ refl refl starts.start
-matches play (Share workers keys) cells g starts = matches_start play (Share workers keys) cells g _ refl refl starts.start
+matches play (Pieces pieces) cells g starts = matches_start play (Pieces pieces) cells g _ _ starts.sizes starts.start
+matches play (Share workers keys) cells g starts = matches_start play (Share workers keys) cells g _ _ starts.sizes starts.start
 
 -- ---- the table of a play
 

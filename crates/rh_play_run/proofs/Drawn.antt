@@ -1,9 +1,8 @@
 -- What is drawn of a play that was read and recorded.
-use Rattle.std.proofs.Common.{◌≡◌, ℕ, ◌<◌, List, Option, None, Err, sym, ap, ◌∙◌, subst}
+use Rattle.std.proofs.Common.{◌≡◌, ℕ, ◌<◌, List, Option, None, Err, sym, ap, subst}
 use Rattle.std.specs.Prelude.{IsErrOf}
 use Rattle.rh_words.specs.declared.shape.Shape.{Shape}
-use Rattle.rh_svg.specs.Markup.{render}
-use Rattle.rh_draw.specs.Picture.{picture}
+use Rattle.rh_draw.specs.Picture.{IsPicture}
 use Rattle.rh_draw.specs.Records.{count_from}
 use Rattle.rh_draw.specs.declared.limits.TheConstants.{MAX_STEPS}
 use Rattle.rh_draw.specs.declared.records.Record.{Record}
@@ -46,7 +45,7 @@ module _ (bytes : Option (List ℕ)) (from : ℕ) (steps : Option ℕ) (play : P
         (play, read, record { table = table; cells = cells; records = records; run = run; all = all; many = subst (λ (l : List Record). MAX_STEPS < count_from from l) same many })
 
     pub drawn : (these : List ℕ) (again : List Record) (window : Window) (text : List ℕ) → these ≡ cells → again ≡ records → IsWindow from steps those window
-        → text ≡ render (picture table these again window) → IsDrawnOf bytes from steps text
+        → IsPicture table these again window text → IsDrawnOf bytes from steps text
     drawn these again window text same_cells same_again chosen is = (
       play,
       read,
@@ -57,6 +56,8 @@ module _ (bytes : Option (List ℕ)) (from : ℕ) (steps : Option ℕ) (play : P
         run = run;
         window = window;
         chosen = subst (λ (l : List Record). IsWindow from steps l window) same chosen;
-        text_is = is ∙ ap (λ (l : List ℕ). render (picture table l again window)) same_cells ∙ ap (λ (l : List Record). render (picture table cells l window)) same_again;
+        picture =
+            subst (λ (l : List Record). IsPicture table cells l window text) same_again
+            (subst (λ (l : List ℕ). IsPicture table l again window text) same_cells is);
       },
     )

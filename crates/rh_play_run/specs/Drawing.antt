@@ -2,10 +2,9 @@
 use Rattle.std.specs.Prelude.{◌≡◌, ℕ, ◌<◌, ◌≤◌, max, List, length, take, Option, Some, None, Result, Ok, Err}
 use Rattle.std.specs.Io.KnownBytes.{Appends}
 use Rattle.rh_words.specs.declared.shape.Shape.{Shape}
-use Rattle.rh_words.specs.Parts.{IsShape, cell_count}
+use Rattle.rh_words.specs.Parts.{cell_count}
 use Rattle.rh_turns.specs.Game.{Game}
-use Rattle.rh_svg.specs.Markup.{render}
-use Rattle.rh_draw.specs.Picture.{picture}
+use Rattle.rh_draw.specs.Picture.{IsPicture}
 use Rattle.rh_draw.specs.Records.{count_from}
 use Rattle.rh_draw.specs.declared.limits.TheConstants.{MAX_STEPS}
 use Rattle.rh_draw.specs.declared.records.Record.{Record}
@@ -28,7 +27,6 @@ pub record IsRecorded (play : Play) (z : Shape) (cells : List ℕ) (records : Li
   pub begins : BeginsPlay play first
   pub pieces : List Piece
   pub follows : CarriesOutAll play.schedule.items first pieces last
-  pub shape : IsShape z
   pub shape_is : z ≡ first.shape
   pub long : length cells ≡ cell_count z
   pub cells_are : cells ≡ take (cell_count z) first.words
@@ -43,7 +41,7 @@ abbrev pub IsWindow : (from : ℕ) → (steps : Option ℕ) → List Record → 
 IsWindow from (Some n) records window = (window ≡ record { from = first_step from; steps = n }) × (n ≤ MAX_STEPS)
 IsWindow from None records window = (window ≡ record { from = first_step from; steps = count_from from records }) × (count_from from records ≤ MAX_STEPS)
 
--- The text is the picture of these steps of the play.
+-- The text is a picture of these steps of the play.
 pub record IsDrawn (play : Play) (from : ℕ) (steps : Option ℕ) (text : List ℕ) : Type 0 where
   pub table : Shape
   pub cells : List ℕ
@@ -51,7 +49,7 @@ pub record IsDrawn (play : Play) (from : ℕ) (steps : Option ℕ) (text : List 
   pub run : IsRecorded play table cells records
   pub window : Window
   pub chosen : IsWindow from steps records window
-  pub text_is : text ≡ render (picture table cells records window)
+  pub picture : IsPicture table cells records window text
 
 -- No steps were chosen, and the play has too many.
 pub record HasTooMany (play : Play) (from : ℕ) (steps : Option ℕ) : Type 0 where
@@ -62,7 +60,7 @@ pub record HasTooMany (play : Play) (from : ℕ) (steps : Option ℕ) : Type 0 w
   pub all : steps ≡ None
   pub many : MAX_STEPS < count_from from records
 
--- the picture of the play that the bytes say
+-- a picture of the play that the bytes say
 abbrev pub IsDrawnOf : (bytes : Option (List ℕ)) (from : ℕ) (steps : Option ℕ) (text : List ℕ) → Type 0
 IsDrawnOf bytes from steps text = (play : Play) × IsPlayRead bytes play × IsDrawn play from steps text
 

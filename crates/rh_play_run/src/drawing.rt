@@ -1,14 +1,14 @@
 //! A play, drawn.
 
-ghost use Rattle.std.specs.Prelude.{◌≡◌, ◌≢◌, ◌+◌, ◌<◌, ◌≤◌, ◌⊎◌, Err, IfErr, IfOk, IfSome, IsErrOf};
+ghost use Rattle.std.specs.Prelude.{◌≡◌, ◌+◌, ◌<◌, ◌≤◌, ◌⊎◌, IfErr, IfOk, IfSome, IsErrOf};
 ghost use Rattle.std.specs.Prelude.{None};
-ghost use Rattle.rh_bytes.specs.Counting.{Rose, failures_of, inner_of};
+ghost use Rattle.rh_bytes.specs.Counting.{CountsFault, WritesLast, inner_of};
 ghost use Rattle.rh_bytes.specs.Taking.{TakesAtMost};
 ghost use Rattle.rh_draw.specs.Records.{count_from};
 ghost use Rattle.rh_draw.specs.declared.limits.TheConstants.{MAX_STEPS};
 ghost use Rattle.rh_play.specs.declared.limits.TheConstants.{MAX_TEXT_BYTES};
 ghost use Rattle.rh_play_run.specs.Beginning.{IsBlank};
-ghost use Rattle.rh_play_run.specs.Devices.{ReadsPlay, WritesLast};
+ghost use Rattle.rh_play_run.specs.Devices.{ReadsPlay};
 ghost use Rattle.rh_play_run.specs.Drawing.{Draws, IsDrawnOf, IsRecorded, IsUndrawn, IsWindow};
 ghost use Rattle.rh_play_run.specs.Run.{IsUnplayed, SaysGoodPlay};
 
@@ -53,9 +53,8 @@ pub fn draw_play<R: Read, W: Write>(
         (W.contents (inner_of writer.old)) (W.contents (inner_of writer.new)) result }
     ensures memory { IsErrOf result (DrawFault.Play PlayRunFault.Memory) →
         (reader.new ≡ reader.old) ⊎ SaysGoodPlay (R.remaining (inner_of reader.old)) }
-    ensures reads { ReadsPlay (DrawFault.Play PlayRunFault.Read) (R.remaining (inner_of reader.old))
-        (R.remaining (inner_of reader.new)) (failures_of reader.old)
-        (failures_of reader.new) result }
+    ensures reads { ReadsPlay R.remaining (DrawFault.Play PlayRunFault.Read) reader.old
+        reader.new result }
     ensures writes { WritesLast (DrawFault.Play PlayRunFault.Write) writer.old writer.new result }
 {
     let picture = drawn(alloc, from, steps, reader)?;
@@ -78,10 +77,7 @@ fn drawn<R: Read>(
         (reader.new ≡ reader.old) ⊎ SaysGoodPlay (R.remaining (inner_of reader.old)) }
     ensures taken { TakesAtMost (R.remaining (inner_of reader.old))
         (R.remaining (inner_of reader.new)) (MAX_TEXT_BYTES + 1) }
-    ensures read { IsErrOf result (DrawFault.Play PlayRunFault.Read) →
-        Rose (failures_of reader.old) (failures_of reader.new) }
-    ensures fine { result ≢ Err (DrawFault.Play PlayRunFault.Read) →
-        failures_of reader.new ≡ failures_of reader.old }
+    ensures counts { CountsFault (DrawFault.Play PlayRunFault.Read) reader.old reader.new result }
 {
     let blank = blank_cells(alloc)?;
     let play = read_play(alloc, reader)?;

@@ -1,12 +1,12 @@
 //! What is told at the end of a play.
 
-ghost use Rattle.std.specs.Prelude.{◌≡◌, ◌++◌, IfOk, OnErr, OnOk, true};
+ghost use Rattle.std.specs.Prelude.{◌≡◌, ◌++◌, IfOk, true};
 ghost use Rattle.rh_layout.specs.Layout.{IsLayout, Layout};
 ghost use Rattle.rh_ledger.specs.Phase.{set_after, tally_of};
 ghost use Rattle.rh_words.specs.Parts.{cell_count};
 ghost use Rattle.rh_turns.specs.Game.{AllFinished};
 ghost use Rattle.rh_stepper.specs.Made.{IsMadeSoFar, held_first};
-ghost use Rattle.rh_bytes.specs.Counting.{Rose, Writes, failures_of, inner_of};
+ghost use Rattle.rh_bytes.specs.Counting.{Emits};
 ghost use Rattle.rh_dump.specs.Dump.{dump_text};
 ghost use Rattle.rh_play_run.specs.Run.{ClosesWith, closing};
 
@@ -55,10 +55,8 @@ pub(crate) fn write_parts<W: Write>(
     closing: &[u8],
 ) -> Result<(), WriteFault>
     requires { IsLayout bits cells.now }
-    ensures text { Writes (W.contents (inner_of writer.old)) (W.contents (inner_of writer.new))
+    ensures { Emits W.contents writer.old writer.new
         (body.now ++ (dump_text bits cells.now ++ closing.now)) result }
-    ensures failed { OnErr result (Rose (failures_of writer.old) (failures_of writer.new)) }
-    ensures fine { OnOk result (failures_of writer.new ≡ failures_of writer.old) }
 {
     write_texts(writer, &[body])?;
     write_dump(bits, cells, writer)?;

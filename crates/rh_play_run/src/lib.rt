@@ -19,7 +19,7 @@
 //!   1,048,577 bytes are taken.
 //! - `tell_play`: the same of a text that tells the steps too, each by its line before the line of
 //!   its order. Worker, kind, part and words are those of the step that was made.
-//! - `draw_play`: where it answers `Ok`, what was written is the picture (`rh_draw`) of the steps
+//! - `draw_play`: where it answers `Ok`, what was written is a picture (`rh_draw`) of the steps
 //!   that were made, from a number on, and of the cells at first. A play is refused, and want of
 //!   memory told, as by `run_play`. `TooMany` comes only where no number of steps was chosen and
 //!   they are more than 2,000.

@@ -1,8 +1,8 @@
 //! The play that a reader gives.
 
-ghost use Rattle.std.specs.Prelude.{◌≡◌, ◌≢◌, ◌+◌, ◌<◌, ◌≤◌, length, IfErr, IfOk, IsErrOf, Err};
+ghost use Rattle.std.specs.Prelude.{◌≡◌, ◌≢◌, ◌+◌, ◌<◌, ◌≤◌, length, IfErr, IfOk, IsErrOf};
 ghost use Rattle.std.specs.Io.KnownBytes.{Consumes, IsAtEnd};
-ghost use Rattle.rh_bytes.specs.Counting.{Rose, failures_of, inner_of};
+ghost use Rattle.rh_bytes.specs.Counting.{CountsFault, inner_of};
 ghost use Rattle.rh_bytes.specs.Taking.{TakesAtMost};
 ghost use Rattle.rh_play.specs.declared.limits.TheConstants.{MAX_TEXT_BYTES};
 ghost use Rattle.rh_play_run.specs.Run.{IsPlayRead, IsUnread};
@@ -24,10 +24,7 @@ pub(crate) fn read_play<R: Read>(
     ensures memory { IsErrOf result PlayRunFault.Memory → reader.new ≡ reader.old }
     ensures taken { TakesAtMost (R.remaining (inner_of reader.old))
         (R.remaining (inner_of reader.new)) (MAX_TEXT_BYTES + 1) }
-    ensures failed { IsErrOf result PlayRunFault.Read →
-        Rose (failures_of reader.old) (failures_of reader.new) }
-    ensures fine { result ≢ Err PlayRunFault.Read →
-        failures_of reader.new ≡ failures_of reader.old }
+    ensures counts { CountsFault PlayRunFault.Read reader.old reader.new result }
 {
     let text = read_front(alloc, reader, MAX_TEXT_BYTES + 1)?;
     Ok(parse_play(alloc, &text)?)
@@ -48,10 +45,7 @@ fn read_front<R: Read>(
         (R.remaining (inner_of reader.new)) most }
     ensures refused { IfErr result (λ fault. fault ≢ PlayRunFault.Read →
         (fault ≡ PlayRunFault.Memory) × (reader.new ≡ reader.old)) }
-    ensures failed { IsErrOf result PlayRunFault.Read →
-        Rose (failures_of reader.old) (failures_of reader.new) }
-    ensures fine { result ≢ Err PlayRunFault.Read →
-        failures_of reader.new ≡ failures_of reader.old }
+    ensures counts { CountsFault PlayRunFault.Read reader.old reader.new result }
 {
     let mut text = vec![in alloc; 0u8; most]?;
     let Some(count) = fill(reader, &mut text) else {

@@ -2,10 +2,10 @@
 
 ghost use Rattle.std.specs.Prelude.{◌≡◌, ◌+◌, ◌++◌, ◌⊎◌, IfErr, IfOk, IsErrOf};
 ghost use Rattle.rh_layout.specs.Layout.{IsLayout};
-ghost use Rattle.rh_bytes.specs.Counting.{failures_of, inner_of};
+ghost use Rattle.rh_bytes.specs.Counting.{WritesLast, inner_of};
 ghost use Rattle.rh_dump.specs.Dump.{dump_text};
 ghost use Rattle.rh_play_run.specs.Beginning.{IsBlank, workers_in};
-ghost use Rattle.rh_play_run.specs.Devices.{ReadsPlay, WritesLast};
+ghost use Rattle.rh_play_run.specs.Devices.{ReadsPlay};
 ghost use Rattle.rh_play_run.specs.Run.{IsPlayed, IsUnplayed, RunsPlay, SaysGoodPlay};
 ghost use Rattle.rh_play_run.specs.declared.log.Telling.TheVariants.{Orders};
 
@@ -47,9 +47,7 @@ pub fn run_play<R: Read, W: Write>(
         (W.contents (inner_of writer.new)) result }
     ensures memory { IsErrOf result PlayRunFault.Memory →
         (reader.new ≡ reader.old) ⊎ SaysGoodPlay (R.remaining (inner_of reader.old)) }
-    ensures reads { ReadsPlay PlayRunFault.Read (R.remaining (inner_of reader.old))
-        (R.remaining (inner_of reader.new)) (failures_of reader.old)
-        (failures_of reader.new) result }
+    ensures reads { ReadsPlay R.remaining PlayRunFault.Read reader.old reader.new result }
     ensures writes { WritesLast PlayRunFault.Write writer.old writer.new result }
 {
     tell_play(alloc, Telling::Orders, reader, writer)
@@ -68,9 +66,7 @@ pub fn tell_play<R: Read, W: Write>(
         (W.contents (inner_of writer.new)) result }
     ensures memory { IsErrOf result PlayRunFault.Memory →
         (reader.new ≡ reader.old) ⊎ SaysGoodPlay (R.remaining (inner_of reader.old)) }
-    ensures reads { ReadsPlay PlayRunFault.Read (R.remaining (inner_of reader.old))
-        (R.remaining (inner_of reader.new)) (failures_of reader.old)
-        (failures_of reader.new) result }
+    ensures reads { ReadsPlay R.remaining PlayRunFault.Read reader.old reader.new result }
     ensures writes { WritesLast PlayRunFault.Write writer.old writer.new result }
 {
     let blank = blank_cells(alloc)?;

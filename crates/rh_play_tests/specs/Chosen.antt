@@ -1,11 +1,14 @@
 -- What a worker has to know for a step to be allowed. A trace does not tell what its worker knew: so it is chosen for each
 -- step, and for contracts alone.
-use Rattle.std.specs.Prelude.{ℕ, ◌+◌, List, [], ◌∷◌, Option, Some, None}
+use Rattle.std.specs.Prelude.{ℕ, ◌+◌, ◌^◌, ◌<◌, ◌≤◌, List, [], ◌∷◌, Option, Some, None}
+use Rattle.std.proofs.Common.{arith, rules}
+use Rattle.rh_layout.specs.Key.{IsBits}
 use Rattle.rh_world.specs.World.{Ref}
 use Rattle.rh_world.specs.Facts.{Fact}
 use Rattle.rh_world.specs.Facts.Fact.{known, size_is, target_is, old_is, desc_is, which_is, over, stale, found, may_promote, may_demote, mismatch}
 use Rattle.rh_world.specs.Sides.{new_side}
 use Rattle.rh_words.specs.Parts.{mark_row}
+use Rattle.rh_words.specs.declared.limits.TheConstants.{MAX_ROOM, MAX_WORKERS}
 use Rattle.rh_words.specs.View.{View, Written, new_view}
 use Rattle.rh_words.specs.Words.{desc_number, ref_of}
 use Rattle.rh_words.specs.declared.shape.Part.{Part}
@@ -61,6 +64,40 @@ written_for z next_number marks_used (request.Settle x p old) = []
 written_for z next_number marks_used (request.Decide d state) = []
 written_for z next_number marks_used (request.Release p state value) = []
 written_for z next_number marks_used request.Claim = []
+
+bits_fit : IsBits 3
+bits_fit = (omega arith, omega arith)
+
+some_worker : 0 < 3
+some_worker = omega arith
+
+workers_fit : 3 ≤ MAX_WORKERS
+workers_fit = omega arith
+
+keys_fit : 0 < 2 ^ 63
+keys_fit = search rules
+
+descriptors_fit : 2 ≤ MAX_ROOM
+descriptors_fit = omega arith
+
+marks_fit : 8 ≤ MAX_ROOM
+marks_fit = omega arith
+
+-- the table on which the steps are made again: `SHAPE` of the tests, which has no name in a contract, since it keeps what is so of
+-- its sizes
+abbrev pub the_shape : Shape
+the_shape = record {
+  bits = 3;
+  workers = 3;
+  keys = 0;
+  rooms = record { descriptors = 2; marks = 8 };
+  bits_fit = bits_fit;
+  some_worker = some_worker;
+  workers_fit = workers_fit;
+  keys_fit = keys_fit;
+  descriptors_fit = descriptors_fit;
+  marks_fit = marks_fit;
+}
 
 abbrev pub chosen : Shape → (worker next_number control marks_used : ℕ) → Request → View
 chosen z worker next_number control marks_used asked = record (new_view [] worker) {

@@ -7,8 +7,7 @@ ghost use Rattle.std.specs.Prelude.{◌≡◌, ◌<◌, IfSome, IsTrue, length};
 ghost use Rattle.rh_words.specs.Parts.{IsPart, word_count};
 ghost use Rattle.rh_words.specs.Steps.{IsFree};
 ghost use Rattle.rh_words.specs.declared.steps.Request.TheVariants.{Write};
-ghost use Rattle.rh_play_tests.specs.Chosen.{chosen};
-ghost use Rattle.rh_play_tests.specs.declared.tracing.TheConstants.{SHAPE};
+ghost use Rattle.rh_play_tests.specs.Chosen.{chosen, the_shape};
 
 use rh_descriptor::{
     claim_key, decide_desc, open_desc, place_mark, read_word, release_cell, settle_mark, write_word,
@@ -47,13 +46,13 @@ const PLAYS: u64 = 30;
 struct Chosen;
 
 impl First<(usize, u64, u64, u64, Request)> for Chosen {
-    ghost first = { λ a. chosen SHAPE a.0 a.1 a.2 a.3 a.4 };
+    ghost first = { λ a. chosen the_shape a.0 a.1 a.2 a.3 a.4 };
 }
 
 /// A worker that counts and knows what it takes to make this step. What its worker knew, a trace
 /// does not tell.
 fn side_for(worker: usize, next_number: u64, control: u64, marks_used: u64, ask: Request) -> Side
-    ensures { result.known.view ≡ chosen SHAPE worker next_number control marks_used ask }
+    ensures { result.known.view ≡ chosen the_shape worker next_number control marks_used ask }
 {
     Side {
         worker,
@@ -74,7 +73,7 @@ fn side_for(worker: usize, next_number: u64, control: u64, marks_used: u64, ask:
 
 /// Whether the table has this part.
 fn has_part(part: Part) -> bool
-    ensures { IsTrue result → IsPart SHAPE part }
+    ensures { IsTrue result → IsPart the_shape part }
 {
     match part {
         Part::Cell(cell) => cell < CELLS,
@@ -94,7 +93,7 @@ fn has_part(part: Part) -> bool
 
 /// The word of a part; none where the table has no such part.
 fn word_of(words: &[u64], part: Part) -> Option<u64>
-    requires { length words.now ≡ word_count SHAPE }
+    requires { length words.now ≡ word_count the_shape }
 {
     if has_part(part) {
         Some(words[SHAPE.index(part)])
@@ -131,7 +130,7 @@ fn mark_in(word: u64) -> Option<Ref>
 
 /// The old value of an entry, where the row of its descriptor is still of it.
 fn old_of(words: &[u64], desc: Ref, entry: usize) -> Option<u64>
-    requires { length words.now ≡ word_count SHAPE }
+    requires { length words.now ≡ word_count the_shape }
 {
     let worker = desc.worker;
     if word_of(words, Part::Serial { worker })? == desc.number {
@@ -144,7 +143,7 @@ fn old_of(words: &[u64], desc: Ref, entry: usize) -> Option<u64>
 /// What the cell of a decided descriptor gets, whose row is still of it: by its entry for that
 /// cell.
 fn released_of(words: &[u64], desc: Ref, cell: usize) -> Option<(usize, u64)>
-    requires { length words.now ≡ word_count SHAPE }
+    requires { length words.now ≡ word_count the_shape }
     ensures { IfSome result (λ r. r.0 < 8) }
 {
     let worker = desc.worker;
@@ -166,7 +165,7 @@ fn released_of(words: &[u64], desc: Ref, cell: usize) -> Option<(usize, u64)>
 
 fn write_again(words: &mut [u64], who: usize, part: Part, word: u64) -> bool
     requires worker { who < 3 }
-    requires sized { length words.old ≡ word_count SHAPE }
+    requires sized { length words.old ≡ word_count the_shape }
     ensures { length words.new ≡ length words.old }
 {
     match part {
@@ -198,7 +197,7 @@ fn write_again(words: &mut [u64], who: usize, part: Part, word: u64) -> bool
 /// A word of a row whose number stands there already.
 fn write_row(words: &mut [u64], who: usize, part: Part, word: u64) -> bool
     requires worker { who < 3 }
-    requires sized { length words.old ≡ word_count SHAPE }
+    requires sized { length words.old ≡ word_count the_shape }
     ensures { length words.new ≡ length words.old }
 {
     match part {
@@ -217,7 +216,7 @@ fn write_row(words: &mut [u64], who: usize, part: Part, word: u64) -> bool
 
 fn write_entry(words: &mut [u64], who: usize, part: Part, word: u64) -> bool
     requires worker { who < 3 }
-    requires sized { length words.old ≡ word_count SHAPE }
+    requires sized { length words.old ≡ word_count the_shape }
     ensures { length words.new ≡ length words.old }
 {
     match part {
@@ -255,8 +254,8 @@ fn write_entry(words: &mut [u64], who: usize, part: Part, word: u64) -> bool
 /// By a worker whose next descriptor and whose next mark have these numbers.
 fn write_own(words: &mut [u64], who: usize, numbers: (u64, u64), part: Part, word: u64) -> bool
     requires worker { who < 3 }
-    requires sized { length words.old ≡ word_count SHAPE }
-    requires free { IsFree SHAPE (chosen SHAPE who numbers.0 0 numbers.1 (Write part word)) part
+    requires sized { length words.old ≡ word_count the_shape }
+    requires free { IsFree the_shape (chosen the_shape who numbers.0 0 numbers.1 (Write part word)) part
         word }
     ensures { length words.new ≡ length words.old }
 {
@@ -268,7 +267,7 @@ fn write_own(words: &mut [u64], who: usize, numbers: (u64, u64), part: Part, wor
 /// Of how many entries it is changes nothing of the word.
 fn open_again(words: &mut [u64], who: usize) -> bool
     requires worker { who < 3 }
-    requires sized { length words.old ≡ word_count SHAPE }
+    requires sized { length words.old ≡ word_count the_shape }
     ensures { length words.new ≡ length words.old }
 {
     let worker = who;
@@ -288,7 +287,7 @@ fn open_again(words: &mut [u64], who: usize) -> bool
 
 fn claim_again(words: &mut [u64], who: usize) -> bool
     requires worker { who < 3 }
-    requires sized { length words.old ≡ word_count SHAPE }
+    requires sized { length words.old ≡ word_count the_shape }
     ensures { length words.new ≡ length words.old }
 {
     let mut side = side_for(who, 0, 0, 0, Request::Claim);
@@ -298,7 +297,7 @@ fn claim_again(words: &mut [u64], who: usize) -> bool
 
 fn read_again(words: &mut [u64], who: usize, part: Part) -> bool
     requires worker { who < 3 }
-    requires sized { length words.old ≡ word_count SHAPE }
+    requires sized { length words.old ≡ word_count the_shape }
     ensures { length words.new ≡ length words.old }
 {
     if !has_part(part) {
@@ -313,7 +312,7 @@ fn read_again(words: &mut [u64], who: usize, part: Part) -> bool
 /// The old value is not known where the descriptor is stale and another word stood there.
 fn place_again(words: &mut [u64], who: usize, cell: usize, touched: Touched) -> bool
     requires worker { who < 3 }
-    requires sized { length words.old ≡ word_count SHAPE }
+    requires sized { length words.old ≡ word_count the_shape }
     ensures { length words.new ≡ length words.old }
 {
     let worker = who;
@@ -348,7 +347,7 @@ fn changed_from(touched: Touched) -> Option<u64> {
 /// Which mark was named that did not stand there is not known.
 fn settle_again(words: &mut [u64], who: usize, cell: usize, touched: Touched) -> bool
     requires worker { who < 3 }
-    requires sized { length words.old ≡ word_count SHAPE }
+    requires sized { length words.old ≡ word_count the_shape }
     ensures { length words.new ≡ length words.old }
 {
     if touched.left == touched.found {
@@ -385,7 +384,7 @@ fn settle_again(words: &mut [u64], who: usize, cell: usize, touched: Touched) ->
 /// are used up.
 fn decide_again(words: &mut [u64], who: usize, owner: usize, touched: Touched) -> bool
     requires worker { who < 3 }
-    requires sized { length words.old ≡ word_count SHAPE }
+    requires sized { length words.old ≡ word_count the_shape }
     ensures { length words.new ≡ length words.old }
 {
     if touched.left == touched.found {
@@ -416,7 +415,7 @@ fn decide_again(words: &mut [u64], who: usize, owner: usize, touched: Touched) -
 /// old value is not known by now.
 fn release_again(words: &mut [u64], who: usize, cell: usize, touched: Touched) -> bool
     requires worker { who < 3 }
-    requires sized { length words.old ≡ word_count SHAPE }
+    requires sized { length words.old ≡ word_count the_shape }
     ensures { length words.new ≡ length words.old }
 {
     if touched.left == touched.found {
@@ -442,7 +441,7 @@ fn release_again(words: &mut [u64], who: usize, cell: usize, touched: Touched) -
 
 fn step_again(words: &mut [u64], kind: StepKind, who: usize, touched: Touched) -> bool
     requires worker { who < 3 }
-    requires sized { length words.old ≡ word_count SHAPE }
+    requires sized { length words.old ≡ word_count the_shape }
     ensures { length words.new ≡ length words.old }
 {
     match (kind, touched.part) {
@@ -461,7 +460,7 @@ fn step_again(words: &mut [u64], kind: StepKind, who: usize, touched: Touched) -
 /// Makes the step again, and whether it found and left the same words.
 fn made_again(words: &mut [u64], kind: StepKind, who: usize, touched: Touched) -> bool
     requires worker { who < 3 }
-    requires sized { length words.old ≡ word_count SHAPE }
+    requires sized { length words.old ≡ word_count the_shape }
     ensures { length words.new ≡ length words.old }
 {
     let found = word_of(words, touched.part) == Some(touched.found);
@@ -507,9 +506,12 @@ fn traced_steps_are_made_again(rt: HostRuntime) -> Result<(), Fail> {
             _ => Kind::Ask,
         };
         let mut player = new_player(&rt, kind, play, &mut random)?;
+        let made = player.shape();
         let shape = Shape {
+            bits: made.bits,
+            workers: made.workers,
             keys: 0,
-            ..player.shape()
+            rooms: made.rooms,
         };
         assert_eq!(rt; shape, SHAPE);
         assert_eq!(rt; shape.words(), WORDS);

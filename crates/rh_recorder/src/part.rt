@@ -1,15 +1,14 @@
 //! Which part of a table a word is.
 
 ghost use Rattle.std.specs.Prelude.{◌≡◌, ◌+◌, ◌<◌};
-ghost use Rattle.rh_words.specs.Parts.{IsPart, IsShape, cell_count, entry_row, index_of};
+ghost use Rattle.rh_words.specs.Parts.{IsPart, cell_count, entry_row, index_of};
 ghost use Rattle.rh_words.specs.Parts.{mark_row, row_count, row_index, word_count};
 
 use rh_words::{Part, Shape};
 
 /// The part that stands at this word of the table.
 pub fn part_at(shape: &Shape, index: usize) -> Part
-    requires shape { IsShape shape.now }
-    requires within { index < word_count shape.now }
+    requires { index < word_count shape.now }
     ensures part { IsPart shape.now result }
     ensures index { index_of shape.now result ≡ index }
 {
@@ -27,8 +26,6 @@ pub fn part_at(shape: &Shape, index: usize) -> Part
 
 /// How many words the rows of one worker have.
 fn rows_of_one(shape: &Shape) -> usize
-    requires shape { IsShape shape.now }
-    requires some { 0 < shape.now.workers }
     ensures { result ≡ row_count shape.now }
 {
     let last = Part::Reason {
@@ -41,7 +38,6 @@ fn rows_of_one(shape: &Shape) -> usize
 /// The part at this word of the rows of a worker: its descriptor row, its mark row, and its
 /// reasons.
 fn part_in_rows(shape: &Shape, worker: usize, row: usize) -> Part
-    requires shape { IsShape shape.now }
     requires worker { worker < shape.now.workers }
     requires row { row < row_count shape.now }
     ensures part { IsPart shape.now result }
@@ -57,7 +53,6 @@ fn part_in_rows(shape: &Shape, worker: usize, row: usize) -> Part
 
 /// The part at this word of a worker's descriptor row.
 fn desc_part(shape: &Shape, worker: usize, row: usize) -> Part
-    requires shape { IsShape shape.now }
     requires worker { worker < shape.now.workers }
     requires row { row < mark_row shape.now 0 }
     ensures part { IsPart shape.now result }
@@ -73,7 +68,6 @@ fn desc_part(shape: &Shape, worker: usize, row: usize) -> Part
 
 /// The part at this word of an entry.
 fn entry_part(shape: &Shape, worker: usize, entry: usize, word: usize) -> Part
-    requires shape { IsShape shape.now }
     requires worker { worker < shape.now.workers }
     requires entry { entry < cell_count shape.now }
     requires word { word < 3 }
@@ -90,7 +84,6 @@ fn entry_part(shape: &Shape, worker: usize, entry: usize, word: usize) -> Part
 
 /// The part at this word behind a worker's descriptor row.
 fn mark_part(shape: &Shape, worker: usize, word: usize) -> Part
-    requires shape { IsShape shape.now }
     requires worker { worker < shape.now.workers }
     requires word { word < 3 + shape.now.workers }
     ensures part { IsPart shape.now result }

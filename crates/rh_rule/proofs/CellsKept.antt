@@ -19,7 +19,7 @@ use Rattle.rh_world.proofs.Updated.{ref_path, same_nat, some_injective, updated_
 use Rattle.rh_words.specs.declared.shape.Shape.{Shape}
 use Rattle.rh_words.specs.declared.shape.Part.{Part}
 use Rattle.rh_words.specs.declared.shape.Part.TheVariants as part
-use Rattle.rh_words.specs.Parts.{IsShape, cell_count}
+use Rattle.rh_words.specs.Parts.{cell_count}
 use Rattle.rh_words.specs.View.{OwnDesc, View}
 use Rattle.rh_words.specs.Words.{IsPlain, cell_in, desc_number, mark_number, without_entry}
 use Rattle.rh_words.specs.Steps.{CanRelease, CanSettle, IsReleased, KnowsValue, MaySettle, Step, is_none, noted, release_view, settle_view, settled_word, size_in, swapped}
@@ -34,7 +34,7 @@ use Rattle.rh_rule.proofs.ReadsKept.{grows_none, quiet_none, known_decided, know
 use Rattle.rh_rule.proofs.Said.{cell_said_is, desc_test, mark_test}
 use Rattle.rh_rule.proofs.Touched.{controls_same, counter_same, descs_same, marks_same, others_stay, own_same, placed_same, quiet_same, raw_row_same, raw_same, rows_same, set_sized}
 
-module _ (z : Shape) (shape : IsShape z) (words : List ℕ) (keep : ℕ → View) (w : World) (side : ℕ → Side) (rule : Rule w side) (m : Represents z words keep w side) (who : ℕ) (mine : who < z.workers) where
+module _ (z : Shape) (words : List ℕ) (keep : ℕ → View) (w : World) (side : ℕ → Side) (rule : Rule w side) (m : Represents z words keep w side) (who : ℕ) (mine : who < z.workers) where
   abbrev pub k : View
   k = keep who
 
@@ -49,7 +49,7 @@ module _ (z : Shape) (shape : IsShape z) (words : List ℕ) (keep : ℕ → View
 
   -- the word of a cell says what the world has there
   pub cell_found : (c : ℕ) → c < cell_count z → cell_in (found_in c) ≡ w.cell c
-  cell_found c here = ap cell_in (m.cells.cells c here) ∙ cell_said_is z shape (w.cell c) (m.cells.standing c here)
+  cell_found c here = ap cell_in (m.cells.cells c here) ∙ cell_said_is z (w.cell c) (m.cells.standing c here)
 
   pub cells_new : (c : ℕ) (n : Cell) (v : World) → c < cell_count z → IsCell z n
       → ((j : ℕ) → v.cell j ≡ updated w.cell c n j) → Cells z (set words c (cell_number n)) v
@@ -149,12 +149,12 @@ module _ (z : Shape) (shape : IsShape z) (words : List ℕ) (keep : ℕ → View
   settled_word_is : (x : Ref) (old : Option ℕ) → MaySettle k x 0 (w.mark_desc x) (w.mark_entry x) old ⊎ (old ≡ None)
       → settled_word (w.mark_desc x) old ≡ cell_number (settled_cell w x (is_none old))
   settled_word_is x None may = refl
-  settled_word_is x (Some o) may = ⊎_elim (λ q. sym (true_note z shape words keep w side rule m who mine (old_is (w.mark_desc x) (w.mark_entry x) o) tt refl q.1).1) (λ q. cc) may
+  settled_word_is x (Some o) may = ⊎_elim (λ q. sym (true_note z words keep w side rule m who mine (old_is (w.mark_desc x) (w.mark_entry x) o) tt refl q.1).1) (λ q. cc) may
 
   may_settle : (x : Ref) (c : ℕ) (old : Option ℕ) → In (found x c) k.side.facts → MaySettle k x c (w.mark_desc x) (w.mark_entry x) old
       → IsAllowed w side who (settles x c (is_none old))
-  may_settle x c None f may = (known_note z shape words keep w side rule m who mine (found x c) tt f, known_note z shape words keep w side rule m who mine (may_promote x c) tt may)
-  may_settle x c (Some o) f may = (known_note z shape words keep w side rule m who mine (found x c) tt f, known_note z shape words keep w side rule m who mine (may_demote x) tt may.0)
+  may_settle x c None f may = (known_note z words keep w side rule m who mine (found x c) tt f, known_note z words keep w side rule m who mine (may_promote x c) tt may)
+  may_settle x c (Some o) f may = (known_note z words keep w side rule m who mine (found x c) tt f, known_note z words keep w side rule m who mine (may_demote x) tt may.0)
 
   settled_is : (x : Ref) (to : Bool) → IsUsed w x → IsCell z (settled_cell w x to)
   settled_is x true u = m.controls.descs (w.mark_desc x) (rule.rows.used x u).0
@@ -174,8 +174,8 @@ module _ (z : Shape) (shape : IsShape z) (words : List ℕ) (keep : ℕ → View
       (updated keep who (record k { side = settle_view k x c (w.mark_desc x) (w.mark_entry x) old (found_in c) }))
   settle_here x c old can =
       let may : IsAllowed w side who (settles x c (is_none old)) = may_settle x c old can.found can.may in
-      let used = (true_note z shape words keep w side rule m who mine (found x c) tt refl can.found).0 in
-      let test : eqb (found_in c) (mark_number x) ≡ is_mark (w.cell c) x = ap (λ (n : ℕ). eqb n (mark_number x)) (m.cells.cells c can.cell) ∙ mark_test z shape (w.cell c) x (m.cells.standing c can.cell) can.mark in
+      let used = (true_note z words keep w side rule m who mine (found x c) tt refl can.found).0 in
+      let test : eqb (found_in c) (mark_number x) ≡ is_mark (w.cell c) x = ap (λ (n : ℕ). eqb n (mark_number x)) (m.cells.cells c can.cell) ∙ mark_test z (w.cell c) x (m.cells.standing c can.cell) can.mark in
       let s : Side = settle_view k x c (w.mark_desc x) (w.mark_entry x) old (found_in c) in
       let same = settle_side_is x c old (found_in c) test in
       let ends = settle_over x c (w.mark_desc x) (w.mark_entry x) old (found_in c) in
@@ -191,8 +191,8 @@ module _ (z : Shape) (shape : IsShape z) (words : List ℕ) (keep : ℕ → View
   pub keeps_settle : (x : Ref) (c : ℕ) (d : Ref) (e : ℕ) (old : Option ℕ) → CanSettle z k x c d e old
       → Core (world_after w who (settles x c (is_none old))) z (set words c (swapped (mark_number x) (settled_word d old) (found_in c))) (updated keep who (noted z k (Step.settles x c d e old) (found_in c)))
   keeps_settle x c d e old can =
-      let p : w.mark_desc x ≡ d = (true_note z shape words keep w side rule m who mine (desc_is x d) tt refl can.desc_is).1 in
-      let q : w.mark_entry x ≡ e = (true_note z shape words keep w side rule m who mine (which_is x e) tt refl can.which_is).1 in
+      let p : w.mark_desc x ≡ d = (true_note z words keep w side rule m who mine (desc_is x d) tt refl can.desc_is).1 in
+      let q : w.mark_entry x ≡ e = (true_note z words keep w side rule m who mine (which_is x e) tt refl can.which_is).1 in
       subst (λ (y : Ref × ℕ). CanSettle z k x c y.0 y.1 old → Core (world_after w who (settles x c (is_none old))) z (set words c (swapped (mark_number x) (settled_word y.0 old) (found_in c))) (updated keep who (noted z k (Step.settles x c y.0 y.1 old) (found_in c))))
       (λ i. (p i, q i)) (settle_here x c old) can
 
@@ -277,9 +277,9 @@ module _ (z : Shape) (shape : IsShape z) (words : List ℕ) (keep : ℕ → View
       value_of : (r : Control) → IsReleased k d e r value → value ≡ entry_value r (w.old d e) (w.new d e)
       value_of unused q = absurd q
       value_of undecided q = absurd q
-      value_of succeeded q = sym (true_note z shape words keep w side rule m who mine (new_is d e value) tt refl q).1
-      value_of withdrawn q = sym (true_note z shape words keep w side rule m who mine (old_is d e value) tt refl q).1
-      value_of (failed f by) q = sym (true_note z shape words keep w side rule m who mine (old_is d e value) tt refl q).1
+      value_of succeeded q = sym (true_note z words keep w side rule m who mine (new_is d e value) tt refl q).1
+      value_of withdrawn q = sym (true_note z words keep w side rule m who mine (old_is d e value) tt refl q).1
+      value_of (failed f by) q = sym (true_note z words keep w side rule m who mine (old_is d e value) tt refl q).1
 
   plain_value : (r : Control) (a b : ℕ) → IsPlain a → IsPlain b → IsPlain (entry_value r a b)
   plain_value unused a b p q = p
@@ -290,15 +290,15 @@ module _ (z : Shape) (shape : IsShape z) (words : List ℕ) (keep : ℕ → View
 
   -- how the world has it released, and which value its cell gets
   released_so : (d : Ref) (e : ℕ) (o : Option Control) (value : ℕ) → IsOpened (w.control d) → KnowsValue k d e o value → KnowsOver t d
-  released_so d e (Some r) value opened may = let known = known_decided z shape words keep w side rule m who mine d r may.0 in inl (known.0, known.2)
-  released_so d e None value opened may = inr (known_note z shape words keep w side rule m who mine (over d) tt may.0, known_note z shape words keep w side rule m who mine (stale d) tt may.1)
+  released_so d e (Some r) value opened may = let known = known_decided z words keep w side rule m who mine d r may.0 in inl (known.0, known.2)
+  released_so d e None value opened may = inr (known_note z words keep w side rule m who mine (over d) tt may.0, known_note z words keep w side rule m who mine (stale d) tt may.1)
 
   released_word : (d : Ref) (e : ℕ) (o : Option Control) (value : ℕ) → e < w.size d → KnowsValue k d e o value → w.cell (w.target d e) ≡ desc d
       → value ≡ cell_number (released_cell w d e)
-  released_word d e (Some r) value lt may here = released_by d e r value (true_decided z shape words keep w side rule m who mine d r may.0).1 may.1
+  released_word d e (Some r) value lt may here = released_by d e r value (true_decided z words keep w side rule m who mine d r may.0).1 may.1
   released_word d e None value lt may here =
-      let passes = rule.acts.facts who (stale d) (known_note z shape words keep w side rule m who mine (stale d) tt may.1) refl in
-      let old : w.old d e ≡ value = (true_note z shape words keep w side rule m who mine (old_is d e value) tt refl may.2).1 in
+      let passes = rule.acts.facts who (stale d) (known_note z words keep w side rule m who mine (stale d) tt may.1) refl in
+      let old : w.old d e ≡ value = (true_note z words keep w side rule m who mine (old_is d e value) tt refl may.2).1 in
       sym old ∙ either (w.control d) refl passes
     where
       either : (c : Control) → w.control d ≡ c → HoldsIn w (stale d) → w.old d e ≡ entry_value (w.control d) (w.old d e) (w.new d e)
@@ -313,9 +313,9 @@ module _ (z : Shape) (shape : IsShape z) (words : List ℕ) (keep : ℕ → View
       (updated keep who (record k { side = release_view k d e (w.target d e) }))
   release_here d e o value can =
       let c : ℕ = w.target d e in
-      let work = work_known z shape words keep w side rule m who mine d e can.work in
-      let may : IsAllowed w side who (releases d e) = (record { size = can.work.size; known = known_note z shape words keep w side rule m who mine (size_is d can.work.size) tt can.work.known; within = can.work.within }, released_so d e o value work.0 can.knows_value) in
-      let test : eqb (found_in c) (desc_number d) ≡ is_desc (w.cell c) d = ap (λ (n : ℕ). eqb n (desc_number d)) (m.cells.cells c can.cell) ∙ desc_test z shape (w.cell c) d (m.cells.standing c can.cell) can.desc in
+      let work = work_known z words keep w side rule m who mine d e can.work in
+      let may : IsAllowed w side who (releases d e) = (record { size = can.work.size; known = known_note z words keep w side rule m who mine (size_is d can.work.size) tt can.work.known; within = can.work.within }, released_so d e o value work.0 can.knows_value) in
+      let test : eqb (found_in c) (desc_number d) ≡ is_desc (w.cell c) d = ap (λ (n : ℕ). eqb n (desc_number d)) (m.cells.cells c can.cell) ∙ desc_test z (w.cell c) d (m.cells.standing c can.cell) can.desc in
       let s : Side = release_view k d e c in
       let same = release_side_is d e work.0 in
       let ends = release_over d e c (knows_own d e o value can.knows_value) in
@@ -333,5 +333,5 @@ module _ (z : Shape) (shape : IsShape z) (words : List ℕ) (keep : ℕ → View
   pub keeps_release : (d : Ref) (e c : ℕ) (o : Option Control) (value : ℕ) → CanRelease z k d e c o value
       → Core (world_after w who (releases d e)) z (set words c (swapped (desc_number d) value (found_in c))) (updated keep who (noted z k (Step.releases d e c o value) (found_in c)))
   keeps_release d e c o value can =
-      let p : w.target d e ≡ c = (true_note z shape words keep w side rule m who mine (target_is d e c) tt refl can.knows_cell).1 in
+      let p : w.target d e ≡ c = (true_note z words keep w side rule m who mine (target_is d e c) tt refl can.knows_cell).1 in
       subst (λ (y : ℕ). CanRelease z k d e y o value → Core (world_after w who (releases d e)) z (set words y (swapped (desc_number d) value (found_in y))) (updated keep who (noted z k (Step.releases d e y o value) (found_in y)))) p (release_here d e o value) can

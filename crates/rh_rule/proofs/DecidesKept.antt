@@ -15,7 +15,7 @@ use Rattle.rh_words.specs.declared.shape.Shape.{Shape}
 use Rattle.rh_words.specs.declared.shape.Part.{Part}
 use Rattle.rh_words.specs.declared.shape.Part.TheVariants as part
 use Rattle.rh_words.specs.declared.reference.Reading.TheVariants as reading
-use Rattle.rh_words.specs.Parts.{IsShape, reason_row, index_of}
+use Rattle.rh_words.specs.Parts.{reason_row, index_of}
 use Rattle.rh_words.specs.View.{View}
 use Rattle.rh_words.specs.Words.{control_word_of, read_control, serial_in, with_entry, without_entry}
 use Rattle.rh_words.specs.Steps.{CanDecide, IsResult, control_read, control_seen, decided_so, row_word, swapped}
@@ -71,7 +71,7 @@ decided_closed (failed e by) h = refl
 opened_decided : (k : Control) → IsDecided k → IsOpened k
 opened_decided k h e = subst IsDecided e h
 
-module _ (z : Shape) (shape : IsShape z) (words : List ℕ) (keep : ℕ → View) (w : World) (side : ℕ → Side) (rule : Rule w side) (m : Represents z words keep w side) (who : ℕ) (mine : who < z.workers) (d : Ref) (r : Control) (can : CanDecide z (keep who) d r) where
+module _ (z : Shape) (words : List ℕ) (keep : ℕ → View) (w : World) (side : ℕ → Side) (rule : Rule w side) (m : Represents z words keep w side) (who : ℕ) (mine : who < z.workers) (d : Ref) (r : Control) (can : CanDecide z (keep who) d r) where
   abbrev k : View
   k = keep who
 
@@ -100,12 +100,12 @@ module _ (z : Shape) (shape : IsShape z) (words : List ℕ) (keep : ℕ → View
   may_decide : (r : Control) → MayDecide k.side k.worker d (with_entry entry r) → MayDecide t who d (with_entry entry r)
   may_decide unused q = q
   may_decide undecided q = q
-  may_decide succeeded q = (q.0, known_note z shape words keep w side rule m who mine (size_is d q.0) tt q.1, λ e i. known_note z shape words keep w side rule m who mine (installed d e) tt (q.2 e i))
+  may_decide succeeded q = (q.0, known_note z words keep w side rule m who mine (size_is d q.0) tt q.1, λ e i. known_note z words keep w side rule m who mine (installed d e) tt (q.2 e i))
   may_decide withdrawn q = q ∙ h.worker
   may_decide (failed e by) q = (q.0 ∙ h.worker, in_mismatch d entry q.1.0 t (subst (λ (s : Side). In (Rattle.rh_world.specs.Facts.Fact.mismatch d entry q.1.0) s.facts) h.side_is q.1.1))
 
   may : IsAllowed w side who (decides d set_to)
-  may = (known_note z shape words keep w side rule m who mine (known d) tt can.known, may_decide r can.may)
+  may = (known_note z words keep w side rule m who mine (known d) tt can.known, may_decide r can.may)
 
   -- it is withdrawn by its own worker, where no mark is left
   full : (r : Control) → MayDecide k.side k.worker d (with_entry entry r) → IsResult z k r → with_entry entry r ≡ withdrawn → z.rooms.marks ≤ w.marks_used d.worker
@@ -116,10 +116,10 @@ module _ (z : Shape) (shape : IsShape z) (words : List ℕ) (keep : ℕ → View
   full (failed e by) q i is = cc
 
   opened : IsOpened (w.control d)
-  opened = opened_known z shape words keep w side rule m who mine d (inl (inl can.known))
+  opened = opened_known z words keep w side rule m who mine d (inl (inl can.known))
 
   has_state : HasState set_to
-  has_state = set_state z k entry r (let few : z.workers ≤ 16 = shape.workers in let is : k.worker ≡ who = h.worker in omega arith) can.result
+  has_state = set_state z k entry r (let few : z.workers ≤ 16 = z.workers_fit in let is : k.worker ≡ who = h.worker in omega arith) can.result
 
   is_decided : IsDecided set_to
   is_decided = set_decided z k entry r can.result
@@ -135,26 +135,26 @@ module _ (z : Shape) (shape : IsShape z) (words : List ℕ) (keep : ℕ → View
     where
       either : (b : Bool) → eqb (serial_in word) d.number ≡ b → is_undecided (w.control d) ≡ false
       either true e =
-          let next = control_word z shape words keep w side rule m who mine d can.desc.0 (eqb_yes (serial_in word) d.number e) opened in
-          let is = newest_word z shape words keep w side rule m who mine d can.desc.0 next in
+          let next = control_word z words keep w side rule m who mine d can.desc.0 (eqb_yes (serial_in word) d.number e) opened in
+          let is = newest_word z words keep w side rule m who mine d can.desc.0 next in
           sym (undecided_test d.number (w.control d) is.1) ∙ ap (λ (n : ℕ). eqb n (control_word_of d.number undecided)) (sym is.0) ∙ late
-      either false e = decided_closed (w.control d) (older_stale z shape words keep w side rule m who mine d opened (eqb_not (serial_in word) d.number e)).0
+      either false e = decided_closed (w.control d) (older_stale z words keep w side rule m who mine d opened (eqb_not (serial_in word) d.number e)).0
 
   decides_late : eqb word (control_word_of d.number undecided) ≡ false → After word
   decides_late late =
       let same : world_after w who (decides d set_to) ≡ w = decided_before w d (w.control d) set_to (closed late) in
       subst (λ (y : World × List ℕ). Core y.0 z y.1 (updated keep who (record k { side = control_read k.side d word; control = control_seen k d word })))
       (λ i. (sym same i, sym (set-get_or words (index_of z p) 0) i))
-      (keeps_read z shape words keep w side rule m who mine (reading.Control record { worker = d.worker; number = d.number }) can.desc tt word refl)
+      (keeps_read z words keep w side rule m who mine (reading.Control record { worker = d.worker; number = d.number }) can.desc tt word refl)
 
   -- the swap took place: d was undecided, and the newest of its worker
   module _ (hit : word ≡ control_word_of d.number undecided) where
     next : suc d.number ≡ w.next_number d.worker
-    next = control_word z shape words keep w side rule m who mine d can.desc.0 (ap serial_in hit ∙ serial_said_is d.number undecided tt) opened
+    next = control_word z words keep w side rule m who mine d can.desc.0 (ap serial_in hit ∙ serial_said_is d.number undecided tt) opened
 
     before : w.control d ≡ undecided
     before =
-        let is = newest_word z shape words keep w side rule m who mine d can.desc.0 next in
+        let is = newest_word z words keep w side rule m who mine d can.desc.0 next in
         undecided_is (w.control d) (sym (undecided_test d.number (w.control d) is.1) ∙ eq-eqb (control_word_of d.number (w.control d)) (control_word_of d.number undecided) (sym is.0 ∙ hit))
 
     abbrev v : World
@@ -167,7 +167,7 @@ module _ (z : Shape) (shape : IsShape z) (words : List ℕ) (keep : ℕ → View
     only = only_control w d set_to is_decided
 
     l : Steady w v
-    l = steady_at z shape words keep w side rule m who mine (decides d set_to) may v same
+    l = steady_at z words keep w side rule m who mine (decides d set_to) may v same
 
     abbrev then : List ℕ
     then = set words (index_of z p) num
@@ -245,11 +245,11 @@ module _ (z : Shape) (shape : IsShape z) (words : List ℕ) (keep : ℕ → View
     -- d was noted as undecided at most
     not_decided : (j : Control) → In (decided d j) k.side.facts → ⊥
     not_decided j i =
-        let is = true_decided z shape words keep w side rule m who mine d j i in
+        let is = true_decided z words keep w side rule m who mine d j i in
         subst IsDecided (sym is.1 ∙ ap without_entry before) is.0
 
     meets : Meets z then v who k x (control_seen k d num)
-    meets = meets_seen z shape words keep w side rule m who mine then v (serial_same z words keep w side m p can.desc.0 num v l (λ o. o) who mine) d (read_control num) x
+    meets = meets_seen z words keep w side rule m who mine then v (serial_same z words keep w side m p can.desc.0 num v l (λ o. o) who mine) d (read_control num) x
         (in_control k.side d (read_control num)) (λ j i. absurd (not_decided j i)) (grows_control k.side d (read_control num)) num
         (λ q. sym (told_number d.number set_to) ∙ ap (control_word_of d.number) (sym said))
         (λ f e q. ⊎_elim
@@ -263,7 +263,7 @@ module _ (z : Shape) (shape : IsShape z) (words : List ℕ) (keep : ℕ → View
         (sym (eq-eqb (serial_in num) d.number (serial_said_is d.number set_to has_state)))
         (subst (λ (y : World). Core y z then (updated keep who (record k { side = x; control = control_seen k d num }))) (sym same) record {
           side = updated side who s;
-          rule = rule_at z shape words keep w side rule m who mine (decides d set_to) may v same;
+          rule = rule_at z words keep w side rule m who mine (decides d set_to) may v same;
           represents = represents z words then keep w v side m l who mine s (record k { side = x; control = control_seen k d num })
               (set_sized z words keep w side m p can.desc.0 num v l)
               (counter_same z words keep w side m p can.desc.0 num v l (λ q. cc) only.counter)

@@ -14,7 +14,7 @@ use Rattle.rh_layout.specs.declared.entry.Entry.{Entry}
 use Rattle.rh_words.specs.declared.shape.Shape.{Shape}
 use Rattle.rh_words.specs.declared.shape.Part.{Part}
 use Rattle.rh_words.specs.declared.shape.Part.TheVariants as part
-use Rattle.rh_words.specs.Parts.{IsShape, cell_count, entry_row, index_of}
+use Rattle.rh_words.specs.Parts.{cell_count, entry_row, index_of}
 use Rattle.rh_words.specs.View.{OwnDesc, View, Written}
 use Rattle.rh_words.specs.Words.{IsPlain, control_word_of, without_entry}
 use Rattle.rh_words.specs.Steps.{AreEntries, CanOpenNext, IsDesc, Step, entries_at, entries_of, entry_of, next_entries, noted, open_noted, own_desc, row_of, row_word, swapped}
@@ -68,7 +68,7 @@ no_decided : (s : Side) (d : Ref) (p : Entries) (n : ℕ) (f : Ref) (r : Control
 no_decided s d p zero f r i = ⊎_elim (λ e. cc) (λ j. ⊎_elim (λ e. cc) (λ j. j) j) i
 no_decided s d p (suc n) f r i = ⊎_elim (λ e. cc) (λ j. ⊎_elim (λ e. cc) (λ j. ⊎_elim (λ e. cc) (λ j. no_decided s d p n f r j) j) j) i
 
-module _ (z : Shape) (shape : IsShape z) (words : List ℕ) (keep : ℕ → View) (w : World) (side : ℕ → Side) (rule : Rule w side) (m : Represents z words keep w side) (who : ℕ) (mine : who < z.workers) (size : ℕ) (can : CanOpenNext z (keep who) size) where
+module _ (z : Shape) (words : List ℕ) (keep : ℕ → View) (w : World) (side : ℕ → Side) (rule : Rule w side) (m : Represents z words keep w side) (who : ℕ) (mine : who < z.workers) (size : ℕ) (can : CanOpenNext z (keep who) size) where
   abbrev k : View
   k = keep who
 
@@ -121,20 +121,20 @@ module _ (z : Shape) (shape : IsShape z) (words : List ℕ) (keep : ℕ → View
       either zero none = m.controls.unopened who mine none ∙ sym (h.no_control (h.next_number ∙ none))
       either (suc n) some =
           let f : Ref = record { worker = who; number = n } in
-          let q = newest_word z shape words keep w side rule m who mine f mine (sym some) in
+          let q = newest_word z words keep w side rule m who mine f mine (sym some) in
           let o = m.controls.newest f mine (sym some) in
           let listed = of_number n k.opened (h.all n o.0) in
           let known : (r : Control) × In (decided f r) k.side.facts = ⊎_elim
           (λ c. let bad : None ≡ Some listed.0.number = sym can.closed ∙ c in cc)
           (λ g. (g.0, subst (λ (i : ℕ). In (decided (record { worker = who; number = i }) g.0) k.side.facts) listed.2 g.1)) (h.over listed.0 listed.1) in
-          let told = true_decided z shape words keep w side rule m who mine f known.0 known.1 in
+          let told = true_decided z words keep w side rule m who mine f known.0 known.1 in
           q.0 ∙ sym (told_number n (w.control f)) ∙ ap (control_word_of n) told.1 ∙ sym (h.control n known.0 (sym (h.next_number ∙ some)) known.1)
 
   abbrev v : World
   v = open_world w d es_of
 
   l : Steady w v
-  l = steady_at z shape words keep w side rule m who mine (opens es_of) may v refl
+  l = steady_at z words keep w side rule m who mine (opens es_of) may v refl
 
   abbrev s : Side
   s = side_after w t who (opens es_of)
@@ -221,7 +221,7 @@ module _ (z : Shape) (shape : IsShape z) (words : List ℕ) (keep : ℕ → View
   not_noted : (r : Control) → In (decided d r) k'.side.facts → ⊥
   not_noted r i =
       let j = no_decided (open_side k.side k.next_number) (own_desc k) es_of size d r i in
-      let told = true_decided z shape words keep w side rule m who mine d r j in
+      let told = true_decided z words keep w side rule m who mine d r j in
       subst IsDecided (sym told.1 ∙ ap without_entry fresh) told.0
 
   kept : Kept z then v s who k'
@@ -318,7 +318,7 @@ module _ (z : Shape) (shape : IsShape z) (words : List ℕ) (keep : ℕ → View
   opens_to : Core v z (set words (index_of z p) (control_word_of (w.next_number who) undecided)) (updated keep who k')
   opens_to = record {
     side = updated side who s;
-    rule = rule_at z shape words keep w side rule m who mine (opens es_of) may v refl;
+    rule = rule_at z words keep w side rule m who mine (opens es_of) may v refl;
     represents = represents z words then keep w v side m l who mine s k'
         (set_sized z words keep w side m p mine (control_word_of (w.next_number who) undecided) v l)
         (counter_same z words keep w side m p mine (control_word_of (w.next_number who) undecided) v l (λ q. cc) refl)

@@ -13,7 +13,6 @@ use Rattle.rh_world.proofs.Updated.{ref_path, same_nat, updated_at, updated_else
 use Rattle.rh_words.specs.declared.shape.Shape.{Shape}
 use Rattle.rh_words.specs.declared.shape.Part.{Part}
 use Rattle.rh_words.specs.declared.shape.Part.TheVariants as part
-use Rattle.rh_words.specs.Parts.{IsShape}
 use Rattle.rh_words.specs.View.{View}
 use Rattle.rh_words.specs.Words.{IsPlain, cell_in, desc_number, mark_number}
 use Rattle.rh_words.specs.Steps.{CanPlace, IsMark, Step, noted, own_mark, swapped}
@@ -61,7 +60,7 @@ quiet_index s x d e c old (desc f) = either (is_ref f d)
     either true = quiet_note s (installed d e) (λ g r q. cc)
     either false = quiet_note s (met f) (λ g r q. cc)
 
-module _ (z : Shape) (shape : IsShape z) (words : List ℕ) (keep : ℕ → View) (w : World) (side : ℕ → Side) (rule : Rule w side) (m : Represents z words keep w side) (who : ℕ) (mine : who < z.workers) (d : Ref) (e : ℕ) (can : CanPlace z (keep who) d e (w.target d e) (w.old d e)) where
+module _ (z : Shape) (words : List ℕ) (keep : ℕ → View) (w : World) (side : ℕ → Side) (rule : Rule w side) (m : Represents z words keep w side) (who : ℕ) (mine : who < z.workers) (d : Ref) (e : ℕ) (can : CanPlace z (keep who) d e (w.target d e) (w.old d e)) where
   abbrev k : View
   k = keep who
 
@@ -84,17 +83,17 @@ module _ (z : Shape) (shape : IsShape z) (words : List ℕ) (keep : ℕ → View
   x = next_mark w who
 
   work : IsOpened (w.control d) × (e < w.size d)
-  work = work_known z shape words keep w side rule m who mine d e can.work
+  work = work_known z words keep w side rule m who mine d e can.work
 
   may : IsAllowed w side who (places d e)
-  may = (record { size = can.work.size; known = known_note z shape words keep w side rule m who mine (size_is d can.work.size) tt can.work.known; within = can.work.within }, ap (λ (s : Side). s.unsettled) (sym h.side_is) ∙ can.settled, seen_known z shape words keep w side rule m who mine d can.seen)
+  may = (record { size = can.work.size; known = known_note z words keep w side rule m who mine (size_is d can.work.size) tt can.work.known; within = can.work.within }, ap (λ (s : Side). s.unsettled) (sym h.side_is) ∙ can.settled, seen_known z words keep w side rule m who mine d can.seen)
 
   own_mark_is : own_mark k ≡ x
   own_mark_is = ref_path (own_mark k) x h.worker h.marks_used
 
   -- what is noted is what the world's step notes
   side_is : place_noted k.side (own_mark k) d e c old (cell_in word) 0 ≡ erased (side_after w t who (places d e))
-  side_is = (λ i. place_noted (h.side_is i) (own_mark_is i) d e c old (cell_found z shape words keep w side rule m who mine c can.cell i) 0)
+  side_is = (λ i. place_noted (h.side_is i) (own_mark_is i) d e c old (cell_found z words keep w side rule m who mine c can.cell i) 0)
       ∙ erased_place t x d e c old (w.cell c) w.act_count
 
   over : Over who k.opened (place_noted k.side (own_mark k) d e c old (cell_in word) 0)
@@ -140,7 +139,7 @@ module _ (z : Shape) (shape : IsShape z) (words : List ℕ) (keep : ℕ → View
       → Core (world_after w who (places d e)) z then (updated keep who (record k { side = place_noted k.side (own_mark k) d e c old (cell_in word) 0; marks_used = suc k.marks_used }))
   placed same_word =
       let same : world_after w who (places d e) ≡ v = ap (λ (b : Bool). cond b v w) same_word in
-      let l : Steady w v = steady_at z shape words keep w side rule m who mine (places d e) may v same in
+      let l : Steady w v = steady_at z words keep w side rule m who mine (places d e) may v same in
       let s : Side = side_after w t who (places d e) in
       let k' : View = record k { side = place_noted k.side (own_mark k) d e c old (cell_in word) 0; marks_used = suc k.marks_used } in
       let n : ℕ = mark_number x in
@@ -149,11 +148,11 @@ module _ (z : Shape) (shape : IsShape z) (words : List ℕ) (keep : ℕ → View
       let meets = quiet_same z words keep w side m p can.cell n v l who mine (λ o. o) (place_noted k.side (own_mark k) d e c old (cell_in word) 0) calm over (λ f i q. q) in
       subst (λ (y : World). Core y z then (updated keep who k')) (sym same) record {
         side = updated side who s;
-        rule = rule_at z shape words keep w side rule m who mine (places d e) may v same;
+        rule = rule_at z words keep w side rule m who mine (places d e) may v same;
         represents = represents z words then keep w v side m l who mine s k'
             (set_sized z words keep w side m p can.cell n v l)
             (counter_same z words keep w side m p can.cell n v l (λ q. cc) refl)
-            (cells_new z shape words keep w side rule m who mine c (mark x) v can.cell is_mark (λ j. refl))
+            (cells_new z words keep w side rule m who mine c (mark x) v can.cell is_mark (λ j. refl))
             (controls_same z words keep w side m p can.cell n v l (λ a q. cc) (λ a b q. cc) (λ f. refl) (λ u. refl))
             record {
               entries = λ f o. entries_stay z words then w v l f o (m.rows.entries f o);
@@ -196,7 +195,7 @@ module _ (z : Shape) (shape : IsShape z) (words : List ℕ) (keep : ℕ → View
   place_here : Core (world_after w who (places d e)) z (set words c (swapped old (mark_number (own_mark k)) word)) (updated keep who (noted z k (Step.places d e c old) word))
   place_here =
       let plain_old : IsPlain old = (m.rows.entries d work.0).plain_olds e work.1 in
-      let test : eqb word old ≡ is_plain (w.cell c) old = ap (λ (n : ℕ). eqb n old) (m.cells.cells c can.cell) ∙ plain_test z shape (w.cell c) old (m.cells.standing c can.cell) plain_old in
+      let test : eqb word old ≡ is_plain (w.cell c) old = ap (λ (n : ℕ). eqb n old) (m.cells.cells c can.cell) ∙ plain_test z (w.cell c) old (m.cells.standing c can.cell) plain_old in
       let s : Side = place_noted k.side (own_mark k) d e c old (cell_in word) 0 in
       let q : Bool → Type 0 = λ b. Core (world_after w who (places d e)) z (set words c (cond b (mark_number (own_mark k)) word)) (updated keep who (record k { side = s; marks_used = cond b (suc k.marks_used) k.marks_used })) in
       subst q (sym test) (either (is_plain (w.cell c) old) refl)
@@ -204,13 +203,13 @@ module _ (z : Shape) (shape : IsShape z) (words : List ℕ) (keep : ℕ → View
       either : (b : Bool) → is_plain (w.cell c) old ≡ b
           → Core (world_after w who (places d e)) z (set words c (cond b (mark_number (own_mark k)) word)) (updated keep who (record k { side = place_noted k.side (own_mark k) d e c old (cell_in word) 0; marks_used = cond b (suc k.marks_used) k.marks_used }))
       either true same_word = subst (λ (y : Ref). Core (world_after w who (places d e)) z (set words c (mark_number y)) (updated keep who (record k { side = place_noted k.side (own_mark k) d e c old (cell_in word) 0; marks_used = suc k.marks_used }))) (sym own_mark_is) (placed same_word)
-      either false not = still_step z shape words keep w side rule m who mine (places d e) may c (ap (λ (b : Bool). cond b v w) not) (place_noted k.side (own_mark k) d e c old (cell_in word) 0) side_is over calm
+      either false not = still_step z words keep w side rule m who mine (places d e) may c (ap (λ (b : Bool). cond b v w) not) (place_noted k.side (own_mark k) d e c old (cell_in word) 0) side_is over calm
 
-module _ (z : Shape) (shape : IsShape z) (words : List ℕ) (keep : ℕ → View) (w : World) (side : ℕ → Side) (rule : Rule w side) (m : Represents z words keep w side) (who : ℕ) (mine : who < z.workers) where
+module _ (z : Shape) (words : List ℕ) (keep : ℕ → View) (w : World) (side : ℕ → Side) (rule : Rule w side) (m : Represents z words keep w side) (who : ℕ) (mine : who < z.workers) where
   pub keeps_place : (d : Ref) (e c old : ℕ) → CanPlace z (keep who) d e c old
       → Core (world_after w who (places d e)) z (set words c (swapped old (mark_number (own_mark (keep who))) (get_or words c 0))) (updated keep who (noted z (keep who) (Step.places d e c old) (get_or words c 0)))
   keeps_place d e c old can =
-      let p : w.target d e ≡ c = (true_note z shape words keep w side rule m who mine (target_is d e c) tt refl can.knows_cell).1 in
-      let q : w.old d e ≡ old = (true_note z shape words keep w side rule m who mine (old_is d e old) tt refl can.knows_old).1 in
+      let p : w.target d e ≡ c = (true_note z words keep w side rule m who mine (target_is d e c) tt refl can.knows_cell).1 in
+      let q : w.old d e ≡ old = (true_note z words keep w side rule m who mine (old_is d e old) tt refl can.knows_old).1 in
       subst (λ (y : ℕ × ℕ). CanPlace z (keep who) d e y.0 y.1 → Core (world_after w who (places d e)) z (set words y.0 (swapped y.1 (mark_number (own_mark (keep who))) (get_or words y.0 0))) (updated keep who (noted z (keep who) (Step.places d e y.0 y.1) (get_or words y.0 0))))
-      (λ i. (p i, q i)) (λ can. place_here z shape words keep w side rule m who mine d e can) can
+      (λ i. (p i, q i)) (λ can. place_here z words keep w side rule m who mine d e can) can

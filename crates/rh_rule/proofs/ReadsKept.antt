@@ -18,7 +18,6 @@ use Rattle.rh_words.specs.declared.shape.Shape.{Shape}
 use Rattle.rh_words.specs.declared.shape.Part.TheVariants as part
 use Rattle.rh_words.specs.declared.reference.Reading.{Reading}
 use Rattle.rh_words.specs.declared.reference.Reading.TheVariants as reading
-use Rattle.rh_words.specs.Parts.{IsShape}
 use Rattle.rh_words.specs.View.{MarkWord, Raw, RawRow, RowWord, View}
 use Rattle.rh_words.specs.View.RowWord.{length_word, cell_word, old_word, new_word}
 use Rattle.rh_words.specs.View.MarkWord.{desc_word, entry_word}
@@ -152,7 +151,7 @@ in_append n (m ∷ l) r i = ⊎_elim (λ e. inl (inl e)) (λ j. ⊎_elim (λ o. 
 
 -- ---- the steps
 
-module _ (z : Shape) (shape : IsShape z) (words : List ℕ) (keep : ℕ → View) (w : World) (side : ℕ → Side) (rule : Rule w side) (m : Represents z words keep w side) (who : ℕ) (mine : who < z.workers) where
+module _ (z : Shape) (words : List ℕ) (keep : ℕ → View) (w : World) (side : ℕ → Side) (rule : Rule w side) (m : Represents z words keep w side) (who : ℕ) (mine : who < z.workers) where
   abbrev pub k : View
   k = keep who
 
@@ -297,7 +296,7 @@ module _ (z : Shape) (shape : IsShape z) (words : List ℕ) (keep : ℕ → View
       either undecided e = tt
       either succeeded e = tt
       either withdrawn e = tt
-      either (failed f by) e = let few : z.workers ≤ 16 = shape.workers in let lt : by < z.workers = m.controls.deciders d f by e in (let q : by < 64 = omega arith in q)
+      either (failed f by) e = let few : z.workers ≤ 16 = z.workers_fit in let lt : by < z.workers = m.controls.deciders d f by e in (let q : by < 64 = omega arith in q)
 
   -- the control word of a worker that opened one
   pub newest_word : (d : Ref) → d.worker < z.workers → suc d.number ≡ w.next_number d.worker
@@ -319,7 +318,7 @@ module _ (z : Shape) (shape : IsShape z) (words : List ℕ) (keep : ℕ → View
     true_word : (u : MarkWord) → IsSaid w x u → (n : Fact) → In n (mark_said x u) → IsRowFact n × HoldsIn w n
     true_word (desc_word u) said n i =
         let d : Ref = w.mark_desc x in
-        let names : desc_in u ≡ Some d = ap desc_in said ∙ desc_said_is z shape d (m.controls.descs d (rule.rows.used x used).0) in
+        let names : desc_in u ≡ Some d = ap desc_in said ∙ desc_said_is z d (m.controls.descs d (rule.rows.used x used).0) in
         one (subst (λ (o : Option Ref). In n (desc_said x o)) names i)
       where
         one : In n (desc_is x (w.mark_desc x) ∷ []) → IsRowFact n × HoldsIn w n
@@ -439,7 +438,7 @@ module _ (z : Shape) (shape : IsShape z) (words : List ℕ) (keep : ℕ → View
       → Core w z words (updated keep who (read_view k r word))
   keeps_read (reading.Word p) here may word is = still
   keeps_read (reading.Cell c) here may word is =
-      let said : cell_in word ≡ w.cell c = ap cell_in (is ∙ m.cells.cells c here) ∙ cell_said_is z shape (w.cell c) (m.cells.standing c here) in
+      let said : cell_in word ≡ w.cell c = ap cell_in (is ∙ m.cells.cells c here) ∙ cell_said_is z (w.cell c) (m.cells.standing c here) in
       side_grows (side_after w t who (reads_cell c)) (read_noted k (reading.Cell c) word) (each_step_keeps w side who (reads_cell c) rule tt)
       ((λ i. cell_noted (h.side_is i) c (said i) (h.side_is i).current 0 (h.next_number i)) ∙ erased_cell t c (w.cell c) t.current w.act_count (w.next_number who))
       (quiet_cell k.side c (cell_in word) k.side.current 0 k.next_number) (grows_cell k.side c (cell_in word) k.side.current 0 k.next_number)

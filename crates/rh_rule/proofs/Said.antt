@@ -14,7 +14,6 @@ use Rattle.rh_world.specs.World.Control.{failed, succeeded, undecided, unused, w
 use Rattle.rh_world.specs.Moves.{is_desc, is_mark, is_plain}
 use Rattle.rh_world.proofs.Updated.{is_ref_not, ref_path, same_ref, updated_ref_here}
 use Rattle.rh_words.specs.declared.shape.Shape.{Shape}
-use Rattle.rh_words.specs.Parts.{IsShape}
 use Rattle.rh_words.specs.Words.{IsPlain, cell_in, cell_said, control_of, control_said, desc_in, desc_number, mark_number, control_word_of, read_control, ref_said, serial_in, state_of, without_entry}
 use Rattle.rh_words.specs.Steps.{IsDesc, IsMark}
 use Rattle.rh_rule.specs.Represents.{IsCell, cell_number}
@@ -28,12 +27,12 @@ full_or false n key = refl
 pub plain_said : (n : ℕ) → IsPlain n → cell_in n ≡ plain n
 plain_said n h = rw h (full_or (is_full (n / 4)) n (key_in (n / 4)))
 
-module _ (z : Shape) (shape : IsShape z) where
+module _ (z : Shape) where
   is_ref_desc : (d : Ref) → IsDesc z d → IsRef d.worker d.number
-  is_ref_desc d h = let a = shape.workers in let b = shape.descriptors in let p = h.0 in let q = h.1 in (omega arith, omega arith)
+  is_ref_desc d h = let a = z.workers_fit in let b = z.descriptors_fit in let p = h.0 in let q = h.1 in (omega arith, omega arith)
 
   is_ref_mark : (x : Ref) → IsMark z x → IsRef x.worker x.number
-  is_ref_mark x h = let a = shape.workers in let b = shape.marks in let p = h.0 in let q = h.1 in (omega arith, omega arith)
+  is_ref_mark x h = let a = z.workers_fit in let b = z.marks_fit in let p = h.0 in let q = h.1 in (omega arith, omega arith)
 
   pub cell_said_is : (k : Cell) → IsCell z k → cell_in (cell_number k) ≡ k
   cell_said_is (plain u) h = plain_said u h

@@ -135,14 +135,14 @@ all_rest w z words keep core rest v = elim (dec_lt v z.workers) [
   | no ge ↦ subst AtRest (sym (core.represents.beyond v (omega arith))) record { closed = refl; settled = refl; paid = refl }
 ]
 
-module _ (z : Shape) (words cells : List ℕ) (keep : ℕ → View) (some_one : 0 < z.workers) where
+module _ (z : Shape) (words cells : List ℕ) (keep : ℕ → View) where
   -- a wipe that is under way is the one that all workers are in the midst of
   only_wiped : (n : ℕ) → AreWiping z keep cells n → Rules z words keep
       → (w : Wiped z words keep) × (w.cells ≡ cells) × (w.cleared ≡ n)
   only_wiped n wiping rules = ⊎_elim
-      (λ (c : Ruled z words keep). let bad : Some (record { cells = cells; cleared = n }) ≡ None = sym (wiping 0 some_one) ∙ (c.1.represents.kept 0 some_one).still in cc)
+      (λ (c : Ruled z words keep). let bad : Some (record { cells = cells; cleared = n }) ≡ None = sym (wiping 0 z.some_worker) ∙ (c.1.represents.kept 0 z.some_worker).still in cc)
       (λ (w : Wiped z words keep).
-      let same : Some (record { cells = w.cells; cleared = w.cleared }) ≡ Some (record { cells = cells; cleared = n }) = sym (w.wiping 0 some_one) ∙ wiping 0 some_one in
+      let same : Some (record { cells = w.cells; cleared = w.cleared }) ≡ Some (record { cells = cells; cleared = n }) = sym (w.wiping 0 z.some_worker) ∙ wiping 0 z.some_worker in
       (w, ap cells_of same, ap cleared_of same)) rules
 
   shared_same : (then : List ℕ) (next : ℕ → View) → word_at z then part.Counter ≡ word_at z words part.Counter
@@ -219,17 +219,17 @@ module _ (z : Shape) (words cells : List ℕ) (keep : ℕ → View) (some_one : 
       }
 
 pub wipe_begins : WipeBegins
-wipe_begins w z words cells keep some_one rest core same = begins z words cells keep some_one w rest core same
+wipe_begins w z words cells keep rest core same = begins z words cells keep w rest core same
 
 pub wipe_stores : WipeStores
-wipe_stores z words cells keep n some_one inside wiping rules = stores_on z words cells keep some_one n inside wiping rules
+wipe_stores z words cells keep n inside wiping rules = stores_on z words cells keep n inside wiping rules
 
 pub wipe_ends : WipeEnds
-wipe_ends z words cells keep shape some_one wiping rules = ends_so z words cells keep some_one wiping rules
+wipe_ends z words cells keep wiping rules = ends_so z words cells keep wiping rules
 
-pub wiped_begins : (z : Shape) (words cells : List ℕ) (keep : ℕ → View) → 0 < z.workers → AreWiping z keep cells (row_total z) → Rules z words keep
+pub wiped_begins : (z : Shape) (words cells : List ℕ) (keep : ℕ → View) → AreWiping z keep cells (row_total z) → Rules z words keep
     → Begins z words (λ v. round_view cells (keep v))
-wiped_begins z words cells keep some_one wiping rules = begins_so z words cells keep some_one wiping rules
+wiped_begins z words cells keep wiping rules = begins_so z words cells keep wiping rules
 
 -- ---- the start
 
@@ -269,7 +269,7 @@ module _ (z : Shape) (cells : List ℕ) (long : length cells ≡ cell_count z) w
   }
 
 pub table_starts : TableStarts
-table_starts z cells shape long plain =
+table_starts z cells long plain =
     let begins = start_begins z cells long in
     let counter : word_at z (first_words z cells long) part.Counter ≡ 0 = behind z cells long (row_total z) in
     fresh z (first_words z cells long) cells (new_view cells) (new_view cells) begins.sized (front z cells long) (λ c lt. ap (λ (u : ℕ). tag_of u) (front z cells long c lt) ∙ plain c lt) begins.rows

@@ -16,7 +16,7 @@ use Rattle.rh_world.proofs.Updated.{same_nat}
 use Rattle.rh_words.specs.declared.shape.Shape.{Shape}
 use Rattle.rh_words.specs.declared.shape.Part.{Part}
 use Rattle.rh_words.specs.declared.shape.Part.TheVariants as part
-use Rattle.rh_words.specs.Parts.{IsPart, IsShape, cell_count, index_of, row_index}
+use Rattle.rh_words.specs.Parts.{IsPart, cell_count, index_of, row_index}
 use Rattle.rh_words.specs.View.{View}
 use Rattle.rh_words.specs.Steps.{CanClaim, IsFree, Step, noted, row_of, row_word, word_after}
 use Rattle.rh_words.proofs.IndexLemmas.{same_part}
@@ -131,7 +131,7 @@ free_settled z v (part.MarkEntry worker) u f o = f.1
 free_settled z v (part.Reason worker owner) u f o = absurd o
 free_settled z v part.Counter u f o = absurd o
 
-module _ (z : Shape) (shape : IsShape z) (words : List ℕ) (keep : ℕ → View) (w : World) (side : ℕ → Side) (rule : Rule w side) (m : Represents z words keep w side) (who : ℕ) (mine : who < z.workers) where
+module _ (z : Shape) (words : List ℕ) (keep : ℕ → View) (w : World) (side : ℕ → Side) (rule : Rule w side) (m : Represents z words keep w side) (who : ℕ) (mine : who < z.workers) where
   abbrev own : View
   own = keep who
 
@@ -282,7 +282,7 @@ module _ (z : Shape) (shape : IsShape z) (words : List ℕ) (keep : ℕ → View
     pub keeps_write : Core w z then (updated keep who (noted z own (Step.writes p u) (get_or words (index_of z p) 0)))
     keeps_write = record {
       side = updated side who (side who);
-      rule = rule_none z shape words keep w side rule m who mine;
+      rule = rule_none z words keep w side rule m who mine;
       represents = represents z words then keep w w side m l who mine (side who) (noted z own (Step.writes p u) (get_or words (index_of z p) 0))
           (set_sized z words keep w side m p here u w l)
           (counter_same z words keep w side m p here u w l (λ e. subst (λ (x : Part). IsOwn z who x) (sym e) mine_p) refl)
@@ -320,8 +320,8 @@ module _ (z : Shape) (shape : IsShape z) (words : List ℕ) (keep : ℕ → View
       let v : World = claim_world w in
       let l = steady_claim w in
       let bound : w.counter ≤ w.keys + w.workers = (claims_share_out w side rule).counter in
-      let few : z.workers ≤ 16 = shape.workers in
-      let short : z.keys < 2 ^ 63 = shape.keys in
+      let few : z.workers ≤ 16 = z.workers_fit in
+      let short : z.keys < 2 ^ 63 = z.keys_fit in
       let is : found ≡ w.counter = m.counter in
       let keys : w.keys ≡ z.keys = m.keys in
       let workers : w.workers ≡ z.workers = m.workers in

@@ -5,7 +5,6 @@ use Rattle.rh_world.specs.World.{World, updated}
 use Rattle.rh_world.specs.Sides.{Side}
 use Rattle.rh_world.specs.Rule.{Rule}
 use Rattle.rh_words.specs.declared.shape.Shape.{Shape}
-use Rattle.rh_words.specs.Parts.{IsShape}
 use Rattle.rh_words.specs.View.{View}
 use Rattle.rh_world.specs.Moves.{world_after}
 use Rattle.rh_world.specs.Moves.Move.{opens, places, settles, decides, releases, claims}
@@ -36,5 +35,5 @@ world_then z w who v Step.claims = world_after w who claims
 -- Each allowed step of a worker of the table keeps the rule, and takes the world to the next one.
 abbrev pub EachStepOnWordsKeeps : Type 0
 EachStepOnWordsKeeps = (w : World) (z : Shape) (words then : List ℕ) (keep : ℕ → View) (who : ℕ) (s : Step) (word : ℕ) (next : View)
-    → IsShape z → Core w z words keep → who < z.workers → Allowed z (keep who) s → StepsTo z s words (keep who) word then next
+    → Core w z words keep → who < z.workers → Allowed z (keep who) s → StepsTo z s words (keep who) word then next
     → Core (world_then z w who (keep who) s) z then (updated keep who next)

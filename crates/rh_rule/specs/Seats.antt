@@ -9,7 +9,7 @@ use Rattle.rh_world.specs.Sides.{AtRest}
 use Rattle.rh_rule.specs.declared.rule.Sitter.{Sitter}
 use Rattle.rh_words.specs.declared.shape.Shape.{Shape}
 use Rattle.rh_words.specs.declared.reference.Reading.{Reading}
-use Rattle.rh_words.specs.Parts.{IsShape, cell_count}
+use Rattle.rh_words.specs.Parts.{cell_count}
 use Rattle.rh_words.specs.View.{View, new_view, round_view}
 use Rattle.rh_words.specs.Words.{IsPlain}
 use Rattle.rh_words.specs.Steps.{Step, Allowed, noted, index, index_read, word_after}
@@ -78,7 +78,7 @@ NoSlot = Unit {0}
 
 -- A table starts with plain cells, whose other words are 0, and with one seat for all workers.
 abbrev pub TableBegins : Type 0
-TableBegins = (z : Shape) (cells : List ℕ) (slots : List NoSlot) → IsShape z → length cells ≡ cell_count z
+TableBegins = (z : Shape) (cells : List ℕ) (slots : List NoSlot) → length cells ≡ cell_count z
     → ((c : ℕ) → c < cell_count z → IsPlain (slice_index cells c))
     → RuleHolds z (opening (cells ++ replicate (row_total z + 1) 0) slots (first_view z cells))
 
@@ -92,7 +92,7 @@ pub record StepTells (z : Shape) (v : View) (l : List Touch) (s : Step) (word : 
 -- The seat of one worker may make each step that is allowed: it touches the step's word, notes what it found, and learns
 -- what it may rely on, and what the rule tells of all workers then.
 abbrev pub StepsAreAllowed : Type 0
-StepsAreAllowed = (z : Shape) (slots id : ℕ) (v : View) (l : List Touch) (s : Step) → IsShape z → Allowed z v s
+StepsAreAllowed = (z : Shape) (slots id : ℕ) (v : View) (l : List Touch) (s : Step) → Allowed z v s
     → Allows {S = NoSlot} (RuleHolds z) slots id (sitter v l ∷ [], []) (index z v s) (word_after v s) (StepTells z v l s)
 
 -- What a look at a word tells, which is no step: nothing is noted. (A worker looks so at its own rows.)
@@ -101,7 +101,7 @@ pub record LookTells (z : Shape) (v : View) (l : List Touch) (r : Reading) (word
   pub finds : Finds z v (Step.reads r) word
 
 abbrev pub LooksAreAllowed : Type 0
-LooksAreAllowed = (z : Shape) (slots id : ℕ) (v : View) (l : List Touch) (r : Reading) → IsShape z → Allowed z v (Step.reads r)
+LooksAreAllowed = (z : Shape) (slots id : ℕ) (v : View) (l : List Touch) (r : Reading) → Allowed z v (Step.reads r)
     → Allows {S = NoSlot} (RuleHolds z) slots id (sitter v l ∷ [], []) (index_read z r) (λ n. n) (LookTells z v l r)
 
 -- A view may be cut in two at any place, and two views may be joined.
@@ -150,7 +150,7 @@ pub record WipeSteps (z : Shape) (slots id : ℕ) (vs : List Sitter) : Type 0 wh
       → Allows {S = NoSlot} (RuleHolds z) slots id (vs, []) i (λ n. n) (λ word me. me ≡ (all_views (round_view cells) vs, []))
 
 abbrev pub AllMayWipe : Type 0
-AllMayWipe = (z : Shape) (slots id : ℕ) (vs : List Sitter) → IsShape z → 0 < z.workers → Spans vs 0 z.workers
+AllMayWipe = (z : Shape) (slots id : ℕ) (vs : List Sitter) → Spans vs 0 z.workers
     → WipeSteps z slots id vs
 
 -- At the close the seat of all workers has what the rule speaks of.
@@ -163,6 +163,6 @@ pub record Closed (z : Shape) (vs : List Sitter) (words : List ℕ) : Type 0 whe
   pub of_trace : (r : ℕ) (s : Sitter) → get_elem? vs r ≡ some s → traces r ≡ s.trace
 
 abbrev pub CloseSees : Type 0
-CloseSees = (z : Shape) (id : ℕ) (vs : List Sitter) (t : State NoSlot (List Sitter)) → 0 < z.workers → Spans vs 0 z.workers
+CloseSees = (z : Shape) (id : ℕ) (vs : List Sitter) (t : State NoSlot (List Sitter)) → Spans vs 0 z.workers
     → RuleHolds z t → get_elem? t.views id ≡ some vs → InView (λ v. v.wiping ≡ None) vs
     → Closed z vs t.words

@@ -11,7 +11,7 @@ use Rattle.rh_words.specs.declared.shape.Shape.{Shape}
 use Rattle.rh_words.specs.declared.shape.Part.{Part}
 use Rattle.rh_words.specs.declared.reference.Reading.{Reading}
 use Rattle.rh_words.specs.declared.reference.Reading.TheVariants as reading
-use Rattle.rh_words.specs.Parts.{IsShape, cell_count, entry_row, index_of}
+use Rattle.rh_words.specs.Parts.{cell_count, entry_row, index_of}
 use Rattle.rh_words.specs.View.{OwnDesc, View}
 use Rattle.rh_words.specs.View.MarkWord.{desc_word}
 use Rattle.rh_words.specs.Words.{IsPlain, cell_in, desc_in, control_word_of, read_control, ref_of, serial_in, state_of}
@@ -113,9 +113,9 @@ Finds z v Step.claims word = word ≤ z.keys + z.workers
 
 -- Under the rule what is kept of each worker is sound, and each allowed step finds what it may rely on.
 abbrev pub ViewsAreSound : Type 0
-ViewsAreSound = (w : World) (z : Shape) (words : List ℕ) (keep : ℕ → View) (v : ℕ) → IsShape z → Core w z words keep → v < z.workers
+ViewsAreSound = (w : World) (z : Shape) (words : List ℕ) (keep : ℕ → View) (v : ℕ) → Core w z words keep → v < z.workers
     → Sound z (keep v)
 
 abbrev pub StepsFind : Type 0
-StepsFind = (w : World) (z : Shape) (words : List ℕ) (keep : ℕ → View) (v : ℕ) (s : Step) → IsShape z → Core w z words keep
+StepsFind = (w : World) (z : Shape) (words : List ℕ) (keep : ℕ → View) (v : ℕ) (s : Step) → Core w z words keep
     → v < z.workers → Allowed z (keep v) s → Finds z (keep v) s (slice_index words (index z (keep v) s))

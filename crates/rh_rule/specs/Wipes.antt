@@ -7,7 +7,7 @@ use Rattle.rh_world.specs.Claims.{Claims}
 use Rattle.rh_world.specs.Ends.{opening_world}
 use Rattle.rh_words.specs.declared.shape.Shape.{Shape}
 use Rattle.rh_words.specs.declared.shape.Part.TheVariants as part
-use Rattle.rh_words.specs.Parts.{IsShape, cell_count, row_count, word_count}
+use Rattle.rh_words.specs.Parts.{cell_count, row_count, word_count}
 use Rattle.rh_words.specs.View.{View, new_view, round_view}
 use Rattle.rh_words.specs.Words.{IsPlain}
 use Rattle.rh_rule.specs.Represents.{word_at}
@@ -58,22 +58,22 @@ Rules z words keep = Ruled z words keep ⊎ Wiped z words keep
 
 -- A wipe begins where all are at rest, with the cells that the table has.
 abbrev pub WipeBegins : Type 0
-WipeBegins = (w : World) (z : Shape) (words cells : List ℕ) (keep : ℕ → View) → 0 < z.workers → AllRest z keep → Core w z words keep
+WipeBegins = (w : World) (z : Shape) (words cells : List ℕ) (keep : ℕ → View) → AllRest z keep → Core w z words keep
     → ((c : ℕ) → c < cell_count z → slice_index words c ≡ slice_index cells c) → Wiped z words (λ v. wiping_view cells 0 (keep v))
 
 -- It clears the next row word.
 abbrev pub WipeStores : Type 0
-WipeStores = (z : Shape) (words cells : List ℕ) (keep : ℕ → View) (n : ℕ) → 0 < z.workers → n < row_total z
+WipeStores = (z : Shape) (words cells : List ℕ) (keep : ℕ → View) (n : ℕ) → n < row_total z
     → AreWiping z keep cells n → Rules z words keep
     → Wiped z (slice_set words (cell_count z + n) 0) (λ v. wiping_view cells (n + 1) (keep v))
 
 -- It ends where all row words are cleared: a round begins with the cells.
 abbrev pub WipeEnds : Type 0
-WipeEnds = (z : Shape) (words cells : List ℕ) (keep : ℕ → View) → IsShape z → 0 < z.workers → AreWiping z keep cells (row_total z)
+WipeEnds = (z : Shape) (words cells : List ℕ) (keep : ℕ → View) → AreWiping z keep cells (row_total z)
     → Rules z words keep → Ruled z words (λ v. round_view cells (keep v))
 
 -- A table starts with plain cells and no word but theirs.
 abbrev pub TableStarts : Type 0
-TableStarts = (z : Shape) (cells : List ℕ) → IsShape z → length cells ≡ cell_count z
+TableStarts = (z : Shape) (cells : List ℕ) → length cells ≡ cell_count z
     → ((c : ℕ) → c < cell_count z → IsPlain (slice_index cells c))
     → Ruled z (cells ++ replicate (row_total z + 1) 0) (new_view cells)

@@ -7,7 +7,7 @@ use Rattle.rh_ledger.specs.declared.tally.Kind.{Kind}
 use Rattle.rh_ledger.specs.declared.tally.Tally.{Tally}
 use Rattle.rh_ledger.specs.Tally.{sum_of}
 use Rattle.rh_ledger.specs.Phase.{set_after}
-use Rattle.rh_words.specs.Parts.{IsShape, cell_count}
+use Rattle.rh_words.specs.Parts.{cell_count}
 use Rattle.rh_rule.specs.Rest.{AllRest}
 use Rattle.rh_acts.specs.Act.{Act, apply_acts}
 use Rattle.rh_acts.specs.Done.{IsDone, Kept, WereTrue}
@@ -60,8 +60,8 @@ module _ (r : Run) (run : RunInvariant r) (rest : AllRest r.shape r.keep) where
       ∙ lead r run
 
   -- what the cells hold is what they stand for
-  pub held_now : IsShape r.shape → AreNow r.shape r.words r.keep (cells_held r.shape r.words)
-  held_now shape = subst (AreNow r.shape r.words r.keep) (sym cells_are) (are_now r run shape)
+  pub held_now : AreNow r.shape r.words r.keep (cells_held r.shape r.words)
+  held_now = subst (AreNow r.shape r.words r.keep) (sym cells_are) (are_now r run)
 
   module _ (S : Keys) (pieces : List (List ℕ)) (layout : Layout r.opening r.shape.bits S) (size : length pieces ≡ r.shape.workers) (all_done : (v : ℕ) → v < r.shape.workers → r.done v ≡ piece pieces v) where
     abbrev n : ℕ

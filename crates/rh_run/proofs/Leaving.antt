@@ -9,7 +9,7 @@ use Rattle.rh_world.proofs.Tests.{eqb_yes}
 use Rattle.std.specs.Prelude.{slice_index}
 use Rattle.rh_words.specs.declared.shape.Shape.{Shape}
 use Rattle.rh_words.specs.declared.shape.Part.TheVariants as part
-use Rattle.rh_words.specs.Parts.{IsShape, reason_row}
+use Rattle.rh_words.specs.Parts.{reason_row}
 use Rattle.rh_words.specs.View.{View}
 use Rattle.rh_words.specs.Words.{control_word_of, with_entry}
 use Rattle.rh_words.specs.Steps.{CanDecide, IsStep, Step, decided_so, is_none, index, row_word}
@@ -51,7 +51,7 @@ no_success e succeeded ne is = ne refl
 no_success e withdrawn ne is = ne is
 no_success e (failed f by) ne is = absurd cc
 
-module _ (w : World) (z : Shape) (words : List ℕ) (keep : ℕ → View) (who : ℕ) (shape : IsShape z) (core : Core w z words keep) (mine : who < z.workers) where
+module _ (w : World) (z : Shape) (words : List ℕ) (keep : ℕ → View) (who : ℕ) (core : Core w z words keep) (mine : who < z.workers) where
   decide_leaves : (d : Ref) (k : Control) (word : ℕ) → word ≡ word_at z words (part.Control d.worker) → CanDecide z (keep who) d k → (IsSuccess (Step.decides d k) word → ⊥)
       → left (world_then z w who (keep who) (Step.decides d k)) ≡ left w
   decide_leaves d k word found can none = either (eqb (word_at z words (part.Control d.worker)) (control_word_of d.number undecided)) refl
@@ -59,7 +59,7 @@ module _ (w : World) (z : Shape) (words : List ℕ) (keep : ℕ → View) (who :
       either : (b : Bool) → eqb (word_at z words (part.Control d.worker)) (control_word_of d.number undecided) ≡ b → left (world_then z w who (keep who) (Step.decides d k)) ≡ left w
       either true e = decided_leaves w d (w.control d) (decided_so z (keep who) d k)
           (no_success (row_word (keep who).written (reason_row z d.worker)) k (λ is. none (found ∙ eqb_yes (word_at z words (part.Control d.worker)) (control_word_of d.number undecided) e, is)))
-      either false e = ap left (decided_before w d (w.control d) (decided_so z (keep who) d k) (closed z shape words keep w core.side core.rule core.represents who mine d k can e))
+      either false e = ap left (decided_before w d (w.control d) (decided_so z (keep who) d k) (closed z words keep w core.side core.rule core.represents who mine d k can e))
 
   step_leaves : (s : Step) (word : ℕ) → word ≡ slice_index words (index z (keep who) s) → IsStep z (keep who) s → (IsSuccess s word → ⊥) → left (world_then z w who (keep who) s) ≡ left w
   step_leaves (Step.writes p u) word found may none = refl
@@ -72,10 +72,10 @@ module _ (w : World) (z : Shape) (words : List ℕ) (keep : ℕ → View) (who :
   step_leaves Step.claims word found may none = refl
 
 pub only_success_changes : OnlySuccessChanges
-only_success_changes w z words then keep who s word next shape core mine may to none c was is inside before after =
+only_success_changes w z words then keep who s word next core mine may to none c was is inside before after =
     let w' = world_then z w who (keep who) s in
-    let core' = each_step_keeps w z words then keep who s word next shape core mine may to in
+    let core' = each_step_keeps w z words then keep who s word next core mine may to in
     let keep' = updated keep who next in
-    logical_words w' z then keep' c is shape core' inside after ∙ left_after w' z then keep' core' c
-    ∙ ap (λ (f : ℕ → ℕ). f c) (step_leaves w z words keep who shape core mine s word to.found_is may.step none)
-    ∙ sym (logical_words w z words keep c was shape core inside before ∙ left_after w z words keep core c)
+    logical_words w' z then keep' c is core' inside after ∙ left_after w' z then keep' core' c
+    ∙ ap (λ (f : ℕ → ℕ). f c) (step_leaves w z words keep who core mine s word to.found_is may.step none)
+    ∙ sym (logical_words w z words keep c was core inside before ∙ left_after w z words keep core c)

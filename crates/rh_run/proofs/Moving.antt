@@ -2,7 +2,6 @@
 use Rattle.std.proofs.Common.{ℕ, ◌<◌, List, [], ◌∷◌, ◌++◌}
 use Rattle.std.specs.List.{Contains}
 use Rattle.rh_layout.specs.Layout.{Keys, Layout}
-use Rattle.rh_words.specs.Parts.{IsShape}
 use Rattle.rh_acts.specs.Act.{apply_acts}
 use Rattle.rh_acts.specs.Workers.{LeavesRoom, acts_of}
 use Rattle.rh_run.specs.History.{history}
@@ -13,17 +12,17 @@ use Rattle.rh_run.proofs.Standing.{run_moment}
 use Rattle.rh_run.proofs.Stepping.{run_claims, run_steps}
 use Rattle.rh_run.proofs.Turning.{run_rounds, run_starts}
 
-goes_on : (r : Run) (m : RunMove) → IsShape r.shape → 0 < r.shape.workers → MayCome r m → RunInvariant r → RunInvariant (after r m)
-goes_on r (RunMove.steps who k s word then next answer) shape some it run = run_steps r who s word then next k answer shape it.within it.allowed it.made it.own_key it.advances run
-goes_on r (RunMove.claims who word then next) shape some it run = run_claims r who word then next shape it.within it.allowed it.made run
-goes_on r (RunMove.round then cells) shape some it run = run_rounds r then cells shape some it.rest it.cells_are it.wiped run
+goes_on : (r : Run) (m : RunMove) → MayCome r m → RunInvariant r → RunInvariant (after r m)
+goes_on r (RunMove.steps who k s word then next answer) it run = run_steps r who s word then next k answer it.within it.allowed it.made it.own_key it.advances run
+goes_on r (RunMove.claims who word then next) it run = run_claims r who word then next it.within it.allowed it.made run
+goes_on r (RunMove.round then cells) it run = run_rounds r then cells it.rest it.cells_are it.wiped run
 
 -- what the cells stand for is the first set, changed, and reflects what is done, now and after any moves
 module _ (S : Keys) (keys : ℕ → List ℕ) (all : List ℕ) where
-  keeps : (r : Run) → IsShape r.shape → Layout r.opening r.shape.bits S → ((v k : ℕ) → v < r.shape.workers → Contains (r.keys v) k → Contains all k)
+  keeps : (r : Run) → Layout r.opening r.shape.bits S → ((v k : ℕ) → v < r.shape.workers → Contains (r.keys v) k → Contains all k)
       → ((v k : ℕ) → Contains (r.keys v) k → Contains (keys v) k) → LeavesRoom r.kind r.shape.bits S all → RunInvariant r → KeepsKeys S keys r
-  keeps r shape layout asked given room run =
-      let moment = run_moment r S all run shape layout asked room in
+  keeps r layout asked given room run =
+      let moment = run_moment r S all run layout asked room in
       record {
         cells = apply_acts (acts_of (run.before ++ history run.world)) r.opening;
         stand = moment.acts.cells;
@@ -33,16 +32,16 @@ module _ (S : Keys) (keys : ℕ → List ℕ) (all : List ℕ) where
         reflects = moment.reflects;
       }
 
-  keeps_on : (r : Run) (moves : List RunMove) → IsShape r.shape → 0 < r.shape.workers → Layout r.opening r.shape.bits S → ((v k : ℕ) → v < r.shape.workers → Contains (r.keys v) k → Contains all k)
+  keeps_on : (r : Run) (moves : List RunMove) → Layout r.opening r.shape.bits S → ((v k : ℕ) → v < r.shape.workers → Contains (r.keys v) k → Contains all k)
       → ((v k : ℕ) → Contains (r.keys v) k → Contains (keys v) k) → LeavesRoom r.kind r.shape.bits S all → AreNext r moves → RunInvariant r → KeepsKeys S keys (after_all r moves)
-  keeps_on r [] shape some layout asked given room next run = keeps r shape layout asked given room run
-  keeps_on r (RunMove.steps who k s word then view answer ∷ moves) shape some layout asked given room next run =
-      let m = RunMove.steps who k s word then view answer in keeps_on (after r m) moves shape some layout asked given room next.1 (goes_on r m shape some next.0 run)
-  keeps_on r (RunMove.claims who word then view ∷ moves) shape some layout asked given room next run =
-      let m = RunMove.claims who word then view in keeps_on (after r m) moves shape some layout asked given room next.1 (goes_on r m shape some next.0 run)
-  keeps_on r (RunMove.round then cells ∷ moves) shape some layout asked given room next run =
-      let m = RunMove.round then cells in keeps_on (after r m) moves shape some layout asked given room next.1 (goes_on r m shape some next.0 run)
+  keeps_on r [] layout asked given room next run = keeps r layout asked given room run
+  keeps_on r (RunMove.steps who k s word then view answer ∷ moves) layout asked given room next run =
+      let m = RunMove.steps who k s word then view answer in keeps_on (after r m) moves layout asked given room next.1 (goes_on r m next.0 run)
+  keeps_on r (RunMove.claims who word then view ∷ moves) layout asked given room next run =
+      let m = RunMove.claims who word then view in keeps_on (after r m) moves layout asked given room next.1 (goes_on r m next.0 run)
+  keeps_on r (RunMove.round then cells ∷ moves) layout asked given room next run =
+      let m = RunMove.round then cells in keeps_on (after r m) moves layout asked given room next.1 (goes_on r m next.0 run)
 
 pub no_key_is_lost : NoKeyIsLost
-no_key_is_lost kind z cells S keys all moves shape some layout asked room next =
-    keeps_on S keys all (started kind z cells keys) moves shape some layout asked (λ v k there. there) room next (run_starts kind z cells keys shape layout.size)
+no_key_is_lost kind z cells S keys all moves layout asked room next =
+    keeps_on S keys all (started kind z cells keys) moves layout asked (λ v k there. there) room next (run_starts kind z cells keys layout.size)

@@ -16,7 +16,7 @@ use Rattle.rh_world.proofs.OwnList.{success_yes}
 use Rattle.rh_world.proofs.Updated.{same_nat}
 use Rattle.rh_words.specs.declared.shape.Shape.{Shape}
 use Rattle.rh_words.specs.declared.shape.Part.TheVariants as part
-use Rattle.rh_words.specs.Parts.{IsShape, cell_count}
+use Rattle.rh_words.specs.Parts.{cell_count}
 use Rattle.rh_words.specs.View.{OwnDesc, View, own_ref}
 use Rattle.rh_words.specs.Words.{cell_in, control_word_of, read_control, serial_in, without_entry}
 use Rattle.rh_rule.specs.Represents.{DescRow, HasItsRow, IsCell, Represents, word_at}
@@ -44,7 +44,7 @@ counts_old succeeded old new ne = absurd (ne refl)
 counts_old withdrawn old new ne = refl
 counts_old (failed e by) old new ne = refl
 
-module _ (w : World) (z : Shape) (words : List ℕ) (keep : ℕ → View) (shape : IsShape z) (core : Core w z words keep) where
+module _ (w : World) (z : Shape) (words : List ℕ) (keep : ℕ → View) (core : Core w z words keep) where
   abbrev side : ℕ → Side
   side = core.side
 
@@ -57,22 +57,22 @@ module _ (w : World) (z : Shape) (words : List ℕ) (keep : ℕ → View) (shape
   -- ---- facts are true
 
   noted_desc : (v : ℕ) → v < z.workers → (x d : Ref) → In (desc_is x d) (keep v).side.facts → w.mark_desc x ≡ d
-  noted_desc v mine x d i = (true_note z shape words keep w side rule m v mine (desc_is x d) tt refl i).1
+  noted_desc v mine x d i = (true_note z words keep w side rule m v mine (desc_is x d) tt refl i).1
 
   noted_cell : (v : ℕ) → v < z.workers → (d : Ref) (e c : ℕ) → In (target_is d e c) (keep v).side.facts → w.target d e ≡ c
-  noted_cell v mine d e c i = (true_note z shape words keep w side rule m v mine (target_is d e c) tt refl i).1
+  noted_cell v mine d e c i = (true_note z words keep w side rule m v mine (target_is d e c) tt refl i).1
 
   noted_found : (v : ℕ) → v < z.workers → (x : Ref) (c : ℕ) → In (found x c) (keep v).side.facts → w.target (w.mark_desc x) (w.mark_entry x) ≡ c
-  noted_found v mine x c i = (true_note z shape words keep w side rule m v mine (found x c) tt refl i).1
+  noted_found v mine x c i = (true_note z words keep w side rule m v mine (found x c) tt refl i).1
 
   -- the old value that is noted for a cell is that of the entry for it
   noted_old : (v : ℕ) → v < z.workers → (d : Ref) (e c word : ℕ) → IsOpened (w.control d) → e < w.size d → w.target d e ≡ c
       → NotesOld (keep v).side d c word → w.old d e ≡ word
   noted_old v mine d e c word opened within here noted =
       let is = noted.1 in
-      let work = work_known z shape words keep w side rule m v mine d noted.0 is.work in
+      let work = work_known z words keep w side rule m v mine d noted.0 is.work in
       let same : e ≡ noted.0 = one_entry w side d e noted.0 rule.rows opened within work.1 (here ∙ sym (noted_cell v mine d noted.0 c is.cell)) in
-      ap (w.old d) same ∙ (true_note z shape words keep w side rule m v mine (old_is d noted.0 word) tt refl is.old).1
+      ap (w.old d) same ∙ (true_note z words keep w side rule m v mine (old_is d noted.0 word) tt refl is.old).1
 
   -- ---- whether a descriptor succeeded
 
@@ -81,21 +81,21 @@ module _ (w : World) (z : Shape) (words : List ℕ) (keep : ℕ → View) (shape
 
   -- the open descriptor is the newest
   open_newest : (d : Ref) → IsOpened (w.control d) → (side d.worker).current ≡ Some d.number → suc d.number ≡ w.next_number d.worker
-  open_newest d opened current = ⊎_elim (λ e. e) (λ ne. absurd (control_stale z shape words keep w side rule m d.worker (worker_of d opened) d opened ne current))
+  open_newest d opened current = ⊎_elim (λ e. e) (λ ne. absurd (control_stale z words keep w side rule m d.worker (worker_of d opened) d opened ne current))
       (same_nat (suc d.number) (w.next_number d.worker))
 
   said_succeeded : (d : Ref) → IsOpened (w.control d) → has_succeeded z words d ≡ true → w.control d ≡ succeeded
   said_succeeded d opened is =
       let word : word_at z words (part.Control d.worker) ≡ control_word_of d.number succeeded = eqb-true (word_at z words (part.Control d.worker)) (control_word_of d.number succeeded) is in
       told_succeeded (w.control d) (
-      sym (reads_desc_control z shape words keep w side rule m d.worker (worker_of d opened) d (worker_of d opened) (ap serial_in word ∙ serial_said_is d.number succeeded tt))
+      sym (reads_desc_control z words keep w side rule m d.worker (worker_of d opened) d (worker_of d opened) (ap serial_in word ∙ serial_said_is d.number succeeded tt))
       ∙ ap read_control word
       ∙ control_said_is d.number succeeded tt)
 
   newest_succeeded : (d : Ref) → d.worker < z.workers → suc d.number ≡ w.next_number d.worker → w.control d ≡ succeeded → has_succeeded z words d ≡ true
   newest_succeeded d mine newest is =
       eq-eqb (word_at z words (part.Control d.worker)) (control_word_of d.number succeeded)
-      ((newest_word z shape words keep w side rule m d.worker mine d mine newest).0 ∙ ap (control_word_of d.number) is)
+      ((newest_word z words keep w side rule m d.worker mine d mine newest).0 ∙ ap (control_word_of d.number) is)
 
   -- of one that stands in a cell the control word always tells it
   standing_succeeded : (c : ℕ) (d : Ref) → w.cell c ≡ desc d → IsOpened (w.control d) → has_succeeded z words d ≡ is_success (w.control d)
@@ -107,7 +107,7 @@ module _ (w : World) (z : Shape) (words : List ℕ) (keep : ℕ → View) (shape
 
   -- a stale one did not succeed, if it stands in a cell
   stale_failed : (c : ℕ) (d : Ref) → w.cell c ≡ desc d → IsOpened (w.control d) → (HasItsRow z words d → ⊥) → w.control d ≢ succeeded
-  stale_failed c d stands opened gone success = row_stale z shape words keep w side rule m d.worker (worker_of d opened) d opened gone (rule.acts.standing c d stands success).owed.current
+  stale_failed c d stands opened gone success = row_stale z words keep w side rule m d.worker (worker_of d opened) d opened gone (rule.acts.standing c d stands success).owed.current
 
   -- one that a worker opened succeeded where its control word says so, or where the worker noted it
   module _ (v : ℕ) (mine : v < z.workers) (o : OwnDesc) (i : In o (keep v).opened) where
@@ -204,7 +204,7 @@ module _ (w : World) (z : Shape) (words : List ℕ) (keep : ℕ → View) (shape
   says c v word (desc d) e so is = ⊎_elim (row_says c d e v so word) (stale_says c d e v so word) is
 
   cell_is : (c : ℕ) → c < cell_count z → cell_in (get_or words c 0) ≡ w.cell c
-  cell_is c inside = ap cell_in (m.cells.cells c inside) ∙ cell_said_is z shape (w.cell c) (m.cells.standing c inside)
+  cell_is c inside = ap cell_in (m.cells.cells c inside) ∙ cell_said_is z (w.cell c) (m.cells.standing c inside)
 
   pub words_say : (c word : ℕ) → c < cell_count z → IsLogicalWord z words keep c word → word ≡ cells_after w w.act_count c
   words_say c word inside is = says c (cells_after w w.act_count c) word (w.cell c) refl ((tells w z words keep core).order.now c)
@@ -239,7 +239,7 @@ module _ (w : World) (z : Shape) (words : List ℕ) (keep : ℕ → View) (shape
   holder : (c : ℕ) (d : Ref) → w.cell c ≡ desc d → (HasItsRow z words d → ⊥) → (v : ℕ) × (v < z.workers) × HoldsCell (keep v).side v d c
   holder c d stands gone =
       let is = rule.rows.descs c d stands in
-      ⊎_elim (λ owner. absurd (row_stale z shape words keep w side rule m d.worker (worker_of d is.opened) d is.opened gone owner.current))
+      ⊎_elim (λ owner. absurd (row_stale z words keep w side rule m d.worker (worker_of d is.opened) d is.opened gone owner.current))
       (⊎_elim (placer_holds d is.entry c is.here) (debtor_holds d c)) is.owed
 
   -- ---- where the words lead
@@ -310,10 +310,10 @@ module _ (w : World) (z : Shape) (words : List ℕ) (keep : ℕ → View) (shape
         (is.0, subst (λ (k : Cell). WordStandsFor z words keep c k is.0) (sym (cell_is c inside)) is.1)
 
 pub words_lead_inside : WordsLeadInside
-words_lead_inside w z words keep c shape core inside = words_lead w z words keep shape core c inside
+words_lead_inside w z words keep c core inside = words_lead w z words keep core c inside
 
 pub logical_words : LogicalWords
-logical_words w z words keep c word shape core inside is = words_say w z words keep shape core c word inside is
+logical_words w z words keep c word core inside is = words_say w z words keep core c word inside is
 
 pub words_stand : WordsStand
-words_stand w z words keep c shape core inside knows = words_tell w z words keep shape core knows c inside
+words_stand w z words keep c core inside knows = words_tell w z words keep core knows c inside

@@ -132,10 +132,10 @@ module _ (w : World) (z : Shape) (words : List ℕ) (keep : ℕ → View) (core 
       }
 
   -- each place of the list was, since one Claim found the end
-  pub shared_out : 0 < z.workers → ((v : ℕ) → v < z.workers → FoundEnd z (keep v)) → IsSharedOut z.keys claims
-  shared_out some_one ended =
-      let past = ended 0 some_one in
-      let counter : past.0 < w.counter = told.shared.below 0 past.0 (subst (In past.0) (of_world 0 some_one) past.1) in
+  pub shared_out : ((v : ℕ) → v < z.workers → FoundEnd z (keep v)) → IsSharedOut z.keys claims
+  shared_out ended =
+      let past = ended 0 z.some_worker in
+      let counter : past.0 < w.counter = told.shared.below 0 past.0 (subst (In past.0) (of_world 0 z.some_worker) past.1) in
       let beyond : z.keys ≤ past.0 = past.2 in
       let all : min w.counter z.keys ≡ z.keys = omega (arith, counter, beyond) in
       subst (λ (n : ℕ). IsSharedOut n claims) all shared_so_far
@@ -160,12 +160,12 @@ room_same Remove b S list keys same room = tt
 room_same Ask b S list keys same room = tt
 
 pub run_shared_ends : RunSharedEnds
-run_shared_ends r S list run rest layout some_one long found all_done room =
+run_shared_ends r S list run rest layout long found all_done room =
     let claims = all_claimed r.shape r.keep in
     let pieces = pieces_at list claims in
     let size = claims_size run.world r.shape r.words r.keep run.core in
     let at = claims_at run.world r.shape r.words r.keep run.core in
-    let shared : IsSharedOut (length list) claims = subst (λ (n : ℕ). IsSharedOut n claims) (sym long) (shared_out run.world r.shape r.words r.keep run.core some_one found) in
+    let shared : IsSharedOut (length list) claims = subst (λ (n : ℕ). IsSharedOut n claims) (sym long) (shared_out run.world r.shape r.words r.keep run.core found) in
     let one = shared_list_is_one_list r.kind S list claims shared in
     let long_pieces : length pieces ≡ r.shape.workers = length-map claims (map (slice_index list)) ∙ size in
     let all_pieces : (v : ℕ) → v < r.shape.workers → r.done v ≡ piece pieces v =

@@ -13,7 +13,7 @@ use Rattle.rh_world.specs.Acts.{cells_after, is_success}
 use Rattle.rh_rule.specs.Rest.{is_noted_success}
 use Rattle.rh_rule.proofs.Telling.{same_filtered}
 use Rattle.rh_words.specs.declared.shape.Shape.{Shape}
-use Rattle.rh_words.specs.Parts.{IsShape, cell_count}
+use Rattle.rh_words.specs.Parts.{cell_count}
 use Rattle.rh_words.specs.View.{OwnDesc, View, own_ref}
 use Rattle.rh_acts.specs.Act.{Act, AllMeet, apply_acts, changes}
 use Rattle.rh_acts.specs.Done.{Does, IsDone, WereTrue}
@@ -130,35 +130,35 @@ module _ (r : Run) (run : RunInvariant r) where
   abbrev own_now : (v : ℕ) → v < r.shape.workers → OwnActsSpec run.world v (r.keep v)
   own_now v mine = own_so_far run.world r.shape r.words r.keep v run.core mine
 
-  own_succeeded : IsShape r.shape → (v : ℕ) → v < r.shape.workers → own v now ≡ succeeded_now r.shape r.words (r.keep v)
-  own_succeeded shape v mine =
+  own_succeeded : (v : ℕ) → v < r.shape.workers → own v now ≡ succeeded_now r.shape r.words (r.keep v)
+  own_succeeded v mine =
       let k = r.keep v in
       (own_now v mine).succeeded
       ∙ ap (λ (os : List OwnDesc). reverse (map (λ (o : OwnDesc). act_of o.entries) os))
       (same_filtered (λ (o : OwnDesc). is_success (run.world.control (own_ref k o.number)))
       (λ (o : OwnDesc). has_succeeded r.shape r.words (own_ref k o.number) || is_noted_success k.side.facts (own_ref k o.number)) k.opened
-      (λ o i. own_told run.world r.shape r.words r.keep shape run.core v mine o i))
+      (λ o i. own_told run.world r.shape r.words r.keep run.core v mine o i))
 
   knows : (v : ℕ) → v < r.shape.workers → KnowsHeld (r.keep v).side v
   knows v mine = subst (KnowsHeld (r.keep v).side) (run.core.represents.kept v mine).worker (run.doing v mine).knows
 
   -- the cells stand for these values, and for no others
-  pub are_now : IsShape r.shape → AreNow r.shape r.words r.keep (apply_acts (acts_of all_made) r.opening)
-  are_now shape = subst (AreNow r.shape r.words r.keep) lead record {
+  pub are_now : AreNow r.shape r.words r.keep (apply_acts (acts_of all_made) r.opening)
+  are_now = subst (AreNow r.shape r.words r.keep) lead record {
     size = cells_length r.shape (cells_after run.world run.world.act_count);
-    stands = words_tell run.world r.shape r.words r.keep shape run.core knows;
+    stands = words_tell run.world r.shape r.words r.keep run.core knows;
     values = λ c word inside is.
         get_cells r.shape (cells_after run.world run.world.act_count) c inside
-        ∙ ap (λ u. value_of u) (sym (words_say run.world r.shape r.words r.keep shape run.core c word inside is));
+        ∙ ap (λ u. value_of u) (sym (words_say run.world r.shape r.words r.keep run.core c word inside is));
   }
 
-  acts_so_far : IsShape r.shape → ActsSoFar r run.before now
-  acts_so_far shape = record {
+  acts_so_far : ActsSoFar r run.before now
+  acts_so_far = record {
     workers = workers;
     meet = meet;
     begun = λ v c mine inside. ap (λ (cells : List ℕ). get_or cells c 0) (sym run.cells) ∙ so.opening v c mine inside;
-    succeeded = own_succeeded shape;
-    cells = are_now shape;
+    succeeded = own_succeeded;
+    cells = are_now;
   }
 
   did : (v : ℕ) → v < r.shape.workers → WorkerSpec r all_made v
@@ -175,7 +175,7 @@ module _ (r : Run) (run : RunInvariant r) where
         none_left = own_so.closed;
       }
 
-  module _ (S : Keys) (all : List ℕ) (shape : IsShape r.shape) (layout : Layout r.opening r.shape.bits S) (asked : (v k : ℕ) → v < r.shape.workers → Contains (r.keys v) k → Contains all k) (room : LeavesRoom r.kind r.shape.bits S all) where
+  module _ (S : Keys) (all : List ℕ) (layout : Layout r.opening r.shape.bits S) (asked : (v k : ℕ) → v < r.shape.workers → Contains (r.keys v) k → Contains all k) (room : LeavesRoom r.kind r.shape.bits S all) where
     does_asked : (a : Act) → Contains (acts_of all_made) a → DoesOneOf r.kind r.shape.bits all a
     does_asked a h =
         let it = from_acts all_made a h in
@@ -185,7 +185,7 @@ module _ (r : Run) (run : RunInvariant r) where
     stands : MomentSpec r S run.before now
     stands =
         let ks = keys_done r.kind r.shape.bits r.keys all_made each_does in
-        let acts = acts_so_far shape in
+        let acts = acts_so_far in
         let among_all : (k : ℕ) → Contains ks.so_far k → Contains all k = λ k h. let it = ks.among k h in asked it.0.worker k (workers it.0 it.1) it.2 in
         let phase = acts_are_a_phase r.kind r.shape.bits r.opening S ks.so_far (acts_of all_made) layout meet (room_for_some r.kind r.shape.bits S ks.so_far all among_all room) (map changes (acts_of all_made)) ks.done in
         record {
@@ -203,5 +203,5 @@ module _ (r : Run) (run : RunInvariant r) where
         }
 
 pub run_moment : RunMoment
-run_moment r S all run shape layout asked room =
-    stands r run S all shape layout asked room
+run_moment r S all run layout asked room =
+    stands r run S all layout asked room

@@ -8,7 +8,6 @@ use Rattle.rh_ledger.specs.declared.tally.Kind.{Kind}
 use Rattle.rh_world.specs.World.{World, In, updated}
 use Rattle.rh_world.proofs.Updated.{some_not_none, updated_here}
 use Rattle.rh_words.specs.declared.shape.Shape.{Shape}
-use Rattle.rh_words.specs.Parts.{IsShape}
 use Rattle.rh_words.specs.View.{OwnDesc, View}
 use Rattle.rh_words.specs.Steps.{Allowed, Step, StepsTo, noted}
 use Rattle.rh_rule.specs.Core.{Core, world_then}
@@ -171,7 +170,7 @@ same_updated f k = λ i j. go j (eqb j k) refl i
     go j true is = ap f (sym (eqb-true j k is))
     go j false is = refl
 
-module _ (r : Run) (who : ℕ) (s : Step) (word : ℕ) (then : List ℕ) (next : View) (shape : IsShape r.shape) (lt : who < r.shape.workers) (allowed : Allowed r.shape (r.keep who) s) (steps : StepsTo r.shape s r.words (r.keep who) word then next) (run : RunInvariant r) where
+module _ (r : Run) (who : ℕ) (s : Step) (word : ℕ) (then : List ℕ) (next : View) (lt : who < r.shape.workers) (allowed : Allowed r.shape (r.keep who) s) (steps : StepsTo r.shape s r.words (r.keep who) word then next) (run : RunInvariant r) where
   abbrev later : World
   later = world_then r.shape run.world who (r.keep who) s
 
@@ -179,13 +178,13 @@ module _ (r : Run) (who : ℕ) (s : Step) (word : ℕ) (then : List ℕ) (next :
   kept_then = updated r.keep who next
 
   core_then : Core later r.shape then kept_then
-  core_then = each_step_keeps run.world r.shape r.words then r.keep who s word next shape run.core lt allowed steps
+  core_then = each_step_keeps run.world r.shape r.words then r.keep who s word next run.core lt allowed steps
 
   next_is : kept_then who ≡ next
   next_is = updated_here r.keep who who next refl
 
   sound_then : Sound r.shape next
-  sound_then = subst (Sound r.shape) next_is (views_are_sound later r.shape then kept_then who shape core_then lt)
+  sound_then = subst (Sound r.shape) next_is (views_are_sound later r.shape then kept_then who core_then lt)
 
   -- the worker goes on so, and each other one stays as it was
   module _ (d : List ℕ) (t : List Bool) (doing : ProgressInvariant r.shape r.kind (record (progress r run.before run.reads who) { view = next; done = d; told = t })) where
@@ -202,16 +201,16 @@ module _ (r : Run) (who : ℕ) (s : Step) (word : ℕ) (then : List ℕ) (next :
         (ap (λ (v : View). v.opening) (next_is ∙ steps.view_is) ∙ noted_opening r.shape (r.keep who) s word) (λ v l. each_is v l (eqb v who) refl)
 
 pub run_steps : RunSteps
-run_steps r who s word then next k answer shape lt allowed steps mine a run =
-    goes_on_then r who s word then next shape lt allowed steps run (also_done (r.done who) k answer) (also_told (r.told who) answer)
+run_steps r who s word then next k answer lt allowed steps mine a run =
+    goes_on_then r who s word then next lt allowed steps run (also_done (r.done who) k answer) (also_told (r.told who) answer)
     (worker_steps r.kind r.shape (progress r run.before run.reads who) s word next k answer allowed steps.view_is
-    (sound_then r who s word then next shape lt allowed steps run) mine a (run.doing who lt))
+    (sound_then r who s word then next lt allowed steps run) mine a (run.doing who lt))
 
 pub run_claims : RunClaims
-run_claims r who word then next shape lt allowed steps run =
+run_claims r who word then next lt allowed steps run =
     let same : RunInvariant (record (stepped r then who next) { done = updated r.done who (r.done who); told = updated r.told who (r.told who) }) =
-    goes_on_then r who Step.claims word then next shape lt allowed steps run (r.done who) (r.told who)
+    goes_on_then r who Step.claims word then next lt allowed steps run (r.done who) (r.told who)
     (worker_claims r.kind r.shape (progress r run.before run.reads who) word next allowed steps.view_is
-    (sound_then r who Step.claims word then next shape lt allowed steps run) (run.doing who lt)) in
+    (sound_then r who Step.claims word then next lt allowed steps run) (run.doing who lt)) in
     subst (λ (t : ℕ → List Bool). RunInvariant (record (stepped r then who next) { told = t })) (same_updated r.told who)
     (subst (λ (d : ℕ → List ℕ). RunInvariant (record (stepped r then who next) { done = d; told = updated r.told who (r.told who) })) (same_updated r.done who) same)

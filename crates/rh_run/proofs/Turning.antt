@@ -10,7 +10,7 @@ use Rattle.rh_world.specs.Claims.{Claims}
 use Rattle.rh_world.specs.Ends.{opening_world}
 use Rattle.rh_world.specs.Sides.{new_side}
 use Rattle.rh_words.specs.declared.shape.Shape.{Shape}
-use Rattle.rh_words.specs.Parts.{IsShape, cell_count}
+use Rattle.rh_words.specs.Parts.{cell_count}
 use Rattle.rh_words.specs.View.{View, new_view, round_view}
 use Rattle.rh_words.specs.Words.{IsPlain}
 use Rattle.rh_rule.specs.Core.{Core, Ruled}
@@ -65,13 +65,13 @@ module _ (w : World) (z : Shape) (words cells plain_words : List ℕ) (core : Co
       ∙ sym (fill_by_all (λ c. value_of (stand c)) cells (cell_count z) 0 long (λ c inside. sym (same c inside) ∙ all.cells c inside ∙ get_cells z stand c inside))
 
 pub run_starts : RunStarts
-run_starts kind z cells keys shape long =
+run_starts kind z cells keys long =
     let plain_words = map plain_number cells in
     let words = plain_words ++ replicate {A = ℕ} (row_total z + 1) 0 in
     let sized : length plain_words ≡ cell_count z = length-map cells plain_number ∙ long in
     let word_is : (c : ℕ) → c < cell_count z → slice_index plain_words c ≡ plain_number (slice_index cells c) = λ c inside. get_or-map plain_number cells c 0 0 (omega (arith, long)) in
     let front : (c : ℕ) → c < cell_count z → slice_index words c ≡ plain_number (slice_index cells c) = λ c inside. get_or_append_left plain_words (replicate {A = ℕ} (row_total z + 1) 0) 0 c (omega (arith, sized)) ∙ word_is c inside in
-    let ruled = table_starts z plain_words shape sized (λ c inside. subst IsPlain (sym (word_is c inside)) (plain_word (slice_index cells c))) in
+    let ruled = table_starts z plain_words sized (λ c inside. subst IsPlain (sym (word_is c inside)) (plain_word (slice_index cells c))) in
     record {
       world = ruled.0;
       core = ruled.1;
@@ -99,10 +99,10 @@ worker_turns kind z cells p is =
       knows = nothing_held (record new_side { claims = p.view.side.claims }) p.view.worker refl refl;
     }
 
-module _ (r : Run) (then cells : List ℕ) (shape : IsShape r.shape) (some_one : 0 < r.shape.workers) (rest : AllRest r.shape r.keep) (same : (c : ℕ) → c < cell_count r.shape → get_or r.words c 0 ≡ get_or cells c 0) (wiped : IsWiped r.shape r.words then) (run : RunInvariant r) where
+module _ (r : Run) (then cells : List ℕ) (rest : AllRest r.shape r.keep) (same : (c : ℕ) → c < cell_count r.shape → get_or r.words c 0 ≡ get_or cells c 0) (wiped : IsWiped r.shape r.words then) (run : RunInvariant r) where
   -- the wipe begins, and then all row words are cleared
   begun : Wiped r.shape r.words (λ v. wiping_view cells 0 (r.keep v))
-  begun = wipe_begins run.world r.shape r.words cells r.keep some_one rest run.core same
+  begun = wipe_begins run.world r.shape r.words cells r.keep rest run.core same
 
   cleared : Wiped r.shape then (λ v. wiping_view cells (row_total r.shape) (r.keep v))
   cleared = record {
@@ -126,12 +126,12 @@ module _ (r : Run) (then cells : List ℕ) (shape : IsShape r.shape) (some_one :
   next v = round_view cells (r.keep v)
 
   ruled : Ruled r.shape then next
-  ruled = wipe_ends r.shape then cells (λ v. wiping_view cells (row_total r.shape) (r.keep v)) shape some_one (λ v mine. refl) (inr cleared)
+  ruled = wipe_ends r.shape then cells (λ v. wiping_view cells (row_total r.shape) (r.keep v)) (λ v mine. refl) (inr cleared)
 
   goes_on_from : opening_cells ruled.0 r.shape ≡ logical_cells run.world r.shape
   goes_on_from =
       let all = ended r run rest in
-      rounds_follow ruled.0 r.shape next 0 (logical_cells run.world r.shape) (happened ruled.0 r.shape then next ruled.1) some_one all.size
+      rounds_follow ruled.0 r.shape next 0 (logical_cells run.world r.shape) (happened ruled.0 r.shape then next ruled.1) r.shape.some_worker all.size
       (λ c inside. ap (λ u. value_of u) (sym (same c inside)) ∙ all.cells c inside)
 
   abbrev reads : ℕ → List Kept
@@ -162,5 +162,5 @@ module _ (r : Run) (then cells : List ℕ) (shape : IsShape r.shape) (some_one :
   }
 
 pub run_rounds : RunRounds
-run_rounds r then cells shape some_one rest same wiped run =
-    turned r then cells shape some_one rest same wiped run
+run_rounds r then cells rest same wiped run =
+    turned r then cells rest same wiped run

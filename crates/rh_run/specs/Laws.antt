@@ -11,7 +11,7 @@ use Rattle.rh_world.specs.World.{World, updated}
 use Rattle.rh_world.specs.World.Control.{succeeded, undecided}
 use Rattle.rh_world.specs.Acts.{cells_after}
 use Rattle.rh_words.specs.declared.shape.Shape.{Shape}
-use Rattle.rh_words.specs.Parts.{IsShape, cell_count}
+use Rattle.rh_words.specs.Parts.{cell_count}
 use Rattle.rh_words.specs.View.{View, new_view, round_view}
 use Rattle.rh_words.specs.Words.{cell_in, control_word_of}
 use Rattle.rh_words.specs.Steps.{Allowed, Step, StepsTo, noted}
@@ -89,7 +89,7 @@ also_done_by r who k answer =
 
 -- It starts from any cells, with nothing done.
 abbrev pub RunStarts : Type 0
-RunStarts = (kind : Kind) (z : Shape) (cells : List ℕ) (keys : ℕ → List ℕ) → IsShape z → length cells ≡ cell_count z → RunInvariant (started kind z cells keys)
+RunStarts = (kind : Kind) (z : Shape) (cells : List ℕ) (keys : ℕ → List ℕ) → length cells ≡ cell_count z → RunInvariant (started kind z cells keys)
 
 -- In a round it comes as far as its workers: it is enough that the table is ruled, and opened as one of them kept it.
 abbrev pub RunGathers : Type 0
@@ -102,20 +102,20 @@ RunGathers = (r : Run) (run : RunInvariant r) (then : List ℕ) (next : ℕ → 
 -- A step of a worker that is at one of its keys.
 abbrev pub RunSteps : Type 0
 RunSteps = (r : Run) (who : ℕ) (s : Step) (word : ℕ) (then : List ℕ) (next : View) (k : ℕ) (answer : Option Bool)
-    → IsShape r.shape → who < r.shape.workers → Allowed r.shape (r.keep who) s → StepsTo r.shape s r.words (r.keep who) word then next
+    → who < r.shape.workers → Allowed r.shape (r.keep who) s → StepsTo r.shape s r.words (r.keep who) word then next
     → Contains (r.keys who) k → Advances r.shape r.kind k (r.keep who) next answer
     → RunInvariant r → RunInvariant (also_done_by (stepped r then who next) who k answer)
 
 -- A Claim.
 abbrev pub RunClaims : Type 0
 RunClaims = (r : Run) (who word : ℕ) (then : List ℕ) (next : View)
-    → IsShape r.shape → who < r.shape.workers → Allowed r.shape (r.keep who) Step.claims
+    → who < r.shape.workers → Allowed r.shape (r.keep who) Step.claims
     → StepsTo r.shape Step.claims r.words (r.keep who) word then next
     → RunInvariant r → RunInvariant (stepped r then who next)
 
 -- A further round, where all are at rest.
 abbrev pub RunRounds : Type 0
-RunRounds = (r : Run) (then cells : List ℕ) → IsShape r.shape → 0 < r.shape.workers → AllRest r.shape r.keep
+RunRounds = (r : Run) (then cells : List ℕ) → AllRest r.shape r.keep
     → ((c : ℕ) → c < cell_count r.shape → slice_index r.words c ≡ slice_index cells c) → IsWiped r.shape r.words then
     → RunInvariant r → RunInvariant (record r { words = then; keep = λ v. round_view cells (r.keep v) })
 
@@ -136,17 +136,17 @@ RunsAlike = (r : Run) (keep : ℕ → View) (keys done : ℕ → List ℕ) (told
 
 -- By the words and the facts a cell stands for no more than one word, which is what the acts left there,
 abbrev pub LogicalWords : Type 0
-LogicalWords = (w : World) (z : Shape) (words : List ℕ) (keep : ℕ → View) (c word : ℕ) → IsShape z → Core w z words keep → c < cell_count z
+LogicalWords = (w : World) (z : Shape) (words : List ℕ) (keep : ℕ → View) (c word : ℕ) → Core w z words keep → c < cell_count z
     → IsLogicalWord z words keep c word → word ≡ cells_after w w.act_count c
 
 -- and for one it does, where each worker knows what it holds.
 abbrev pub WordsStand : Type 0
-WordsStand = (w : World) (z : Shape) (words : List ℕ) (keep : ℕ → View) (c : ℕ) → IsShape z → Core w z words keep → c < cell_count z
+WordsStand = (w : World) (z : Shape) (words : List ℕ) (keep : ℕ → View) (c : ℕ) → Core w z words keep → c < cell_count z
     → ((v : ℕ) → v < z.workers → KnowsHeld (keep v).side v) → (word : ℕ) × IsLogicalWord z words keep c word
 
 -- What stands in a cell leads to rows that the table has, or to a worker that holds it.
 abbrev pub WordsLeadInside : Type 0
-WordsLeadInside = (w : World) (z : Shape) (words : List ℕ) (keep : ℕ → View) (c : ℕ) → IsShape z → Core w z words keep → c < cell_count z
+WordsLeadInside = (w : World) (z : Shape) (words : List ℕ) (keep : ℕ → View) (c : ℕ) → Core w z words keep → c < cell_count z
     → LeadsInside z words keep c (cell_in (slice_index words c))
 
 -- The step finds a descriptor undecided, and decides that it succeeded.
@@ -164,7 +164,7 @@ IsSuccess Step.claims word = ⊥
 -- is decided or that is stale: its control word is another one.
 abbrev pub OnlySuccessChanges : Type 0
 OnlySuccessChanges = (w : World) (z : Shape) (words then : List ℕ) (keep : ℕ → View) (who : ℕ) (s : Step) (word : ℕ) (next : View)
-    → IsShape z → Core w z words keep → who < z.workers → Allowed z (keep who) s → StepsTo z s words (keep who) word then next → (IsSuccess s word → ⊥)
+    → Core w z words keep → who < z.workers → Allowed z (keep who) s → StepsTo z s words (keep who) word then next → (IsSuccess s word → ⊥)
     → (c was is : ℕ) → c < cell_count z → IsLogicalWord z words keep c was → IsLogicalWord z then (updated keep who next) c is → is ≡ was
 
 -- the set reflects that the key is done
@@ -209,7 +209,7 @@ pub record MomentSpec (r : Run) (S : Keys) (before now : List Made) : Type 0 whe
   pub reflects : (v k : ℕ) → v < r.shape.workers → Contains (r.done v) k → Reflects r.kind (set_after r.kind S so_far) k
 
 abbrev pub RunMoment : Type 0
-RunMoment = (r : Run) (S : Keys) (all : List ℕ) (run : RunInvariant r) → IsShape r.shape → Layout r.opening r.shape.bits S
+RunMoment = (r : Run) (S : Keys) (all : List ℕ) (run : RunInvariant r) → Layout r.opening r.shape.bits S
     → ((v k : ℕ) → v < r.shape.workers → Contains (r.keys v) k → Contains all k) → LeavesRoom r.kind r.shape.bits S all
     → MomentSpec r S run.before (history run.world)
 
@@ -234,6 +234,6 @@ RunEnds = (r : Run) (S : Keys) (pieces : List (List ℕ)) → RunInvariant r →
 -- Where the workers have claimed a shared list to its end, and each has done the keys that it claimed.
 abbrev pub RunSharedEnds : Type 0
 RunSharedEnds = (r : Run) (S : Keys) (list : List ℕ) → RunInvariant r → AllRest r.shape r.keep → Layout r.opening r.shape.bits S
-    → 0 < r.shape.workers → length list ≡ r.shape.keys → ((v : ℕ) → v < r.shape.workers → FoundEnd r.shape (r.keep v))
+    → length list ≡ r.shape.keys → ((v : ℕ) → v < r.shape.workers → FoundEnd r.shape (r.keep v))
     → ((v : ℕ) → v < r.shape.workers → r.done v ≡ map (slice_index list) (claimed r.shape (r.keep v)))
     → LeavesRoom r.kind r.shape.bits S list → FinalSpec r S list

@@ -5,7 +5,7 @@ use Rattle.rh_layout.specs.Layout.{Keys, Layout}
 use Rattle.rh_ledger.specs.declared.tally.Kind.{Kind}
 use Rattle.rh_ledger.specs.Phase.{set_after}
 use Rattle.rh_words.specs.declared.shape.Shape.{Shape}
-use Rattle.rh_words.specs.Parts.{IsShape, cell_count}
+use Rattle.rh_words.specs.Parts.{cell_count}
 use Rattle.rh_words.specs.View.{View, round_view}
 use Rattle.rh_words.specs.Steps.{Allowed, Step, StepsTo}
 use Rattle.rh_rule.specs.Rest.{AllRest}
@@ -82,6 +82,6 @@ pub record KeepsKeys (S : Keys) (keys : ℕ → List ℕ) (r : Run) : Type 0 whe
 -- Whatever moves come after the start of a phase that has room for its keys, no key is lost, of those that were held or are done.
 abbrev pub NoKeyIsLost : Type 0
 NoKeyIsLost = (kind : Kind) (z : Shape) (cells : List ℕ) (S : Keys) (keys : ℕ → List ℕ) (all : List ℕ) (moves : List RunMove)
-    → IsShape z → 0 < z.workers → Layout cells z.bits S
+    → Layout cells z.bits S
     → ((v k : ℕ) → v < z.workers → Contains (keys v) k → Contains all k) → LeavesRoom kind z.bits S all
     → AreNext (started kind z cells keys) moves → KeepsKeys S keys (after_all (started kind z cells keys) moves)

@@ -2,7 +2,6 @@
 use Rattle.std.proofs.Common.{◌≡◌, ◌∙◌, ℕ, List, [], ◌∷◌, ap, get_or, sym, subst}
 use Rattle.atomic_table.specs.Table.{Allows, Me, stepped}
 use Rattle.rh_words.specs.declared.shape.Shape.{Shape}
-use Rattle.rh_words.specs.Parts.{IsShape}
 use Rattle.rh_words.specs.View.{View}
 use Rattle.rh_words.specs.Steps.{Allowed, Step, index, noted, word_after}
 use Rattle.rh_rule.specs.declared.rule.Sitter.{Sitter}
@@ -22,34 +21,34 @@ tells z v l s word me t =
       told = t.told;
     }
 
-pub allows : (z y : Shape) (slots id : ℕ) (me : Me NoSlot (List Sitter)) (v : View) (s : Step) (at : ℕ) (f : ℕ → ℕ) → IsShape z → y ≡ z
+pub allows : (z y : Shape) (slots id : ℕ) (me : Me NoSlot (List Sitter)) (v : View) (s : Step) (at : ℕ) (f : ℕ → ℕ) → y ≡ z
     → me ≡ (sitter v (trace_in me.0) ∷ [], []) → Allowed z v s → at ≡ index z v s → ((n : ℕ) → f n ≡ word_after v s n)
     → Allows {S = NoSlot} (RuleHolds y) slots id me at f (Tells z v s me)
-allows z y slots id me v s at f shape same view may here effect =
+allows z y slots id me v s at f same view may here effect =
     subst (λ (x : Shape). Allows {S = NoSlot} (RuleHolds x) slots id me at f (Tells z v s me)) (sym same)
     (subst (λ (m : Me NoSlot (List Sitter)). Allows {S = NoSlot} (RuleHolds z) slots id m at f (Tells z v s m)) (sym view)
     (subst (λ (i : ℕ). Allows {S = NoSlot} (RuleHolds z) slots id (sitter v (trace_in me.0) ∷ [], []) i f (Tells z v s (sitter v (trace_in me.0) ∷ [], []))) (sym here)
     (λ st h long is less.
-    let r = steps_are_allowed z slots id v (trace_in me.0) s shape may st h long is less in
+    let r = steps_are_allowed z slots id v (trace_in me.0) s may st h long is less in
     (r.0, r.1, r.2, subst (λ (m : ℕ). RuleHolds z (stepped st (index z v s) m id [] r.0 r.1)) (sym (effect (get_or st.words (index z v s) 0))) r.3, tells z v (trace_in me.0) s _ _ r.4))))
 
-looks : (z : Shape) (slots id : ℕ) (v : View) (l : List Touch) (s : Step) → IsReading s → IsShape z → Allowed z v s
+looks : (z : Shape) (slots id : ℕ) (v : View) (l : List Touch) (s : Step) → IsReading s → Allowed z v s
     → Allows {S = NoSlot} (RuleHolds z) slots id (sitter v l ∷ [], []) (index z v s) (λ n. n) (Looks z v s (sitter v l ∷ [], []))
-looks z slots id v l (Step.writes p u) never shape may = absurd never
-looks z slots id v l (Step.opens size) never shape may = absurd never
-looks z slots id v l (Step.reads r) is shape may = λ st h long at less.
-    let t = looks_are_allowed z slots id v l r shape may st h long at less in (t.0, t.1, t.2, t.3, record { view = t.4.view; finds = t.4.finds })
-looks z slots id v l (Step.places d e c old) never shape may = absurd never
-looks z slots id v l (Step.settles x c d e old) never shape may = absurd never
-looks z slots id v l (Step.decides d k) never shape may = absurd never
-looks z slots id v l (Step.releases d e c k value) never shape may = absurd never
-looks z slots id v l Step.claims never shape may = absurd never
+looks z slots id v l (Step.writes p u) never may = absurd never
+looks z slots id v l (Step.opens size) never may = absurd never
+looks z slots id v l (Step.reads r) is may = λ st h long at less.
+    let t = looks_are_allowed z slots id v l r may st h long at less in (t.0, t.1, t.2, t.3, record { view = t.4.view; finds = t.4.finds })
+looks z slots id v l (Step.places d e c old) never may = absurd never
+looks z slots id v l (Step.settles x c d e old) never may = absurd never
+looks z slots id v l (Step.decides d k) never may = absurd never
+looks z slots id v l (Step.releases d e c k value) never may = absurd never
+looks z slots id v l Step.claims never may = absurd never
 
-pub may_look : (z y : Shape) (slots id : ℕ) (me : Me NoSlot (List Sitter)) (v : View) (s : Step) (at : ℕ) → IsReading s → IsShape z → y ≡ z
+pub may_look : (z y : Shape) (slots id : ℕ) (me : Me NoSlot (List Sitter)) (v : View) (s : Step) (at : ℕ) → IsReading s → y ≡ z
     → me ≡ (sitter v (trace_in me.0) ∷ [], []) → Allowed z v s → at ≡ index z v s
     → Allows {S = NoSlot} (RuleHolds y) slots id me at (λ n. n) (Looks z v s me)
-may_look z y slots id me v s at reads shape same view may here =
+may_look z y slots id me v s at reads same view may here =
     subst (λ (x : Shape). Allows {S = NoSlot} (RuleHolds x) slots id me at (λ n. n) (Looks z v s me)) (sym same)
     (subst (λ (m : Me NoSlot (List Sitter)). Allows {S = NoSlot} (RuleHolds z) slots id m at (λ n. n) (Looks z v s m)) (sym view)
     (subst (λ (i : ℕ). Allows {S = NoSlot} (RuleHolds z) slots id (sitter v (trace_in me.0) ∷ [], []) i (λ n. n) (Looks z v s (sitter v (trace_in me.0) ∷ [], []))) (sym here)
-    (looks z slots id v (trace_in me.0) s reads shape may)))
+    (looks z slots id v (trace_in me.0) s reads may)))

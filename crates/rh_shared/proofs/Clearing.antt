@@ -6,7 +6,7 @@ use lib.ListN.{get_elem?}
 use Rattle.atomic_table.specs.Table.{Allows, Me}
 use Rattle.rh_rule.specs.declared.rule.Sitter.{Sitter}
 use Rattle.rh_words.specs.declared.shape.Shape.{Shape}
-use Rattle.rh_words.specs.Parts.{IsShape, cell_count}
+use Rattle.rh_words.specs.Parts.{cell_count}
 use Rattle.rh_words.specs.View.{View, round_view}
 use Rattle.rh_rule.specs.Seats.{AreMade, Begun, RuleHolds, InView, IsWiping, NoSlot, Spans, WipeSteps, all_views, sitter}
 use Rattle.rh_rule.specs.Wipes.{row_total, wiping_view}
@@ -46,12 +46,12 @@ weaker : (z : Shape) (slots id i : ℕ) (me : Me NoSlot (List Sitter)) (f : ℕ 
     → Allows {S = NoSlot} (RuleHolds z) slots id me i f (λ word. then) → Allows {S = NoSlot} (RuleHolds z) slots id me i f (λ word. more)
 weaker z slots id i me f then more to a st h long is less = let r = a st h long is less in (r.0, r.1, r.2, r.3, to _ r.4)
 
-module _ (z : Shape) (slots id : ℕ) (me : Me NoSlot (List Sitter)) (shape : IsShape z) (empty : me.1 ≡ []) (some_one : 0 < z.workers) (all : Spans me.0 0 z.workers) where
+module _ (z : Shape) (slots id : ℕ) (me : Me NoSlot (List Sitter)) (empty : me.1 ≡ []) (all : Spans me.0 0 z.workers) where
   abbrev vs : List Sitter
   vs = me.0
 
   may : WipeSteps z slots id vs
-  may = all_may_wipe z slots id vs shape some_one all
+  may = all_may_wipe z slots id vs all
 
   of_me : (i : ℕ) (f : ℕ → ℕ) (then : Me NoSlot (List Sitter) → Type 0) → Allows {S = NoSlot} (RuleHolds z) slots id (vs, []) i f (λ word. then) → Allows {S = NoSlot} (RuleHolds z) slots id me i f (λ word. then)
   of_me i f then a = subst (λ l. Allows {S = NoSlot} (RuleHolds z) slots id (vs, l) i f (λ word. then)) (sym empty) a

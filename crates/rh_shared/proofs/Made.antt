@@ -10,7 +10,7 @@ use Rattle.rh_tagword.specs.Word.{IsValue, is_plain, plain_number, tag_of}
 use Rattle.rh_tagword.proofs.PlainWords.{value_said, value_there}
 use Rattle.rh_rule.specs.declared.rule.Sitter.{Sitter}
 use Rattle.rh_words.specs.declared.shape.Shape.{Shape}
-use Rattle.rh_words.specs.Parts.{IsShape, cell_count, word_count}
+use Rattle.rh_words.specs.Parts.{cell_count, word_count}
 use Rattle.rh_words.specs.View.{View, new_view}
 use Rattle.rh_words.specs.Words.{IsPlain}
 use Rattle.rh_rule.specs.Rest.{AllRest}
@@ -25,9 +25,9 @@ use Rattle.rh_shared.proofs.Crews.{IsHalf}
 -- ---- the start
 
 -- the words of the cells, and behind them empty rows; what is kept of the cells for contracts alone is what their words are
-pub opens : (z : Shape) (cells plain all kept : List ℕ) (n m : ℕ) → IsShape z → length cells ≡ cell_count z → plain ≡ map plain_number cells
+pub opens : (z : Shape) (cells plain all kept : List ℕ) (n m : ℕ) → length cells ≡ cell_count z → plain ≡ map plain_number cells
     → n ≡ word_count z → m ≡ length plain → all ≡ take n plain ++ replicate (n - m) 0 → kept ≡ plain → RuleHolds {S = NoSlot} z (opening {S = NoSlot} all [] (first_view z kept))
-opens z cells plain all kept n m shape size plain_is n_is m_is all_is kept_is =
+opens z cells plain all kept n m size plain_is n_is m_is all_is kept_is =
     let long : length plain ≡ cell_count z = ap length plain_is ∙ length-map cells plain_number ∙ size in
     let behind : n - m ≡ row_total z + 1 = omega (arith, n_is, m_is, long) in
     let whole : all ≡ plain ++ replicate (row_total z + 1) 0 = all_is ∙ (λ i. take_all n plain (omega (arith, n_is, long)) i ++ replicate (behind i) 0) in
@@ -35,7 +35,7 @@ opens z cells plain all kept n m shape size plain_is n_is m_is all_is kept_is =
     let at : get_or plain c 0 ≡ plain_number (get_or cells c 0) = ap (λ (l : List ℕ). get_or l c 0) plain_is ∙ get_or-map plain_number cells c 0 0 (omega (arith, inside, size)) in
     let tag : tag_of (get_or plain c 0) ≡ 0 = omega (arith, at) in tag in
     subst (λ (ws : List ℕ). RuleHolds {S = NoSlot} z (opening {S = NoSlot} all [] (first_view z ws))) (sym kept_is)
-    (subst (λ (ws : List ℕ). RuleHolds {S = NoSlot} z (opening {S = NoSlot} ws [] (first_view z plain))) (sym whole) (starts z plain [] shape long are_plain))
+    (subst (λ (ws : List ℕ). RuleHolds {S = NoSlot} z (opening {S = NoSlot} ws [] (first_view z plain))) (sym whole) (starts z plain [] long are_plain))
 
 pub made_half : (z : Shape) (plain : List ℕ) (us : List Sitter) → us ≡ first_view z plain → IsHalf IsFresh us 0 z.workers
 made_half z plain us is = subst (λ (l : List Sitter). IsHalf IsFresh l 0 z.workers) (sym is) record {
@@ -46,8 +46,8 @@ made_half z plain us is = subst (λ (l : List Sitter). IsHalf IsFresh l 0 z.work
   each = λ r s e. subst (λ (k : Sitter). IsFresh k.view) (sym (new_at plain 0 z.workers r s e)) refl;
 }
 
-pub made_head : (z : Shape) (plain : List ℕ) (us : List Sitter) → 0 < z.workers → us ≡ first_view z plain → new_view plain 0 ≡ head_of us
-made_head z plain us more is = sym (ap head_of is ∙ first_head z.workers more)
+pub made_head : (z : Shape) (plain : List ℕ) (us : List Sitter) → us ≡ first_view z plain → new_view plain 0 ≡ head_of us
+made_head z plain us is = sym (ap head_of is ∙ first_head z.workers z.some_worker)
   where
     first_head : (n : ℕ) → 0 < n → head_of (new_views plain 0 n) ≡ new_view plain 0
     first_head zero more = absurd (omega arith)
@@ -61,10 +61,10 @@ get_from (x ∷ xs) zero a e = some-injective x a e
 get_from (x ∷ xs) (suc i) a e = get_from xs i a e
 
 -- where all workers are quiet, these are the cells
-closes : (z y : Shape) (id : ℕ) (vs : List Sitter) (st : State NoSlot (List Sitter)) → y ≡ z → 0 < z.workers → Spans vs 0 z.workers → RuleHolds {S = NoSlot} y st → get_elem? st.views id ≡ some vs
+closes : (z y : Shape) (id : ℕ) (vs : List Sitter) (st : State NoSlot (List Sitter)) → y ≡ z → Spans vs 0 z.workers → RuleHolds {S = NoSlot} y st → get_elem? st.views id ≡ some vs
     → InView IsQuiet vs → (m : AreMade z vs) × (m.cells ≡ take (cell_count z) st.words) × (cell_count z ≤ length st.words)
-closes z y id vs st same some_one all holds at quiet =
-    let sees = close_sees z id vs st some_one all (subst (λ (x : Shape). RuleHolds {S = NoSlot} x st) same holds) at (λ r s e. (quiet r s e).still) in
+closes z y id vs st same all holds at quiet =
+    let sees = close_sees z id vs st all (subst (λ (x : Shape). RuleHolds {S = NoSlot} x st) same holds) at (λ r s e. (quiet r s e).still) in
     let keep = sees.keep in
     let ruled = sees.ruled in
     let each : (P : View → Type 0) → InView P vs → (v : ℕ) → v < z.workers → P (keep v) = λ P h v inside.
@@ -98,10 +98,10 @@ closes z y id vs st same some_one all holds at quiet =
       omega (arith, sized),
     )
 
-pub closes_with : (z y : Shape) (id : ℕ) (vs : List Sitter) (st : State NoSlot (List Sitter)) (words : List ℕ) → y ≡ z → 0 < z.workers → Spans vs 0 z.workers → RuleHolds {S = NoSlot} y st
+pub closes_with : (z y : Shape) (id : ℕ) (vs : List Sitter) (st : State NoSlot (List Sitter)) (words : List ℕ) → y ≡ z → Spans vs 0 z.workers → RuleHolds {S = NoSlot} y st
     → get_elem? st.views id ≡ some vs → InView IsQuiet vs → st.words ≡ words → (m : AreMade z vs) × (m.cells ≡ take (cell_count z) words) × (cell_count z ≤ length words)
-closes_with z y id vs st words same some_one all holds at quiet is =
-    let r = closes z y id vs st same some_one all holds at quiet in
+closes_with z y id vs st words same all holds at quiet is =
+    let r = closes z y id vs st same all holds at quiet in
     (r.0, subst (λ (ws : List ℕ). r.0.cells ≡ take (cell_count z) ws) is r.1, subst (λ (ws : List ℕ). cell_count z ≤ length ws) is r.2)
 
 module _ (z : Shape) (vs : List Sitter) (words : List ℕ) (m : AreMade z vs) (front : m.cells ≡ take (cell_count z) words) where

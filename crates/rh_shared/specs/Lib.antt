@@ -5,3 +5,4 @@ pub mod Rests
 pub mod Claims
 pub mod Crews
 pub mod Ends
+pub mod Least

@@ -10,6 +10,7 @@ use Rattle.rh_rule.specs.Seats.{NoSlot, sitter}
 use Rattle.rh_rule.specs.Rest.{IsTold}
 use Rattle.rh_rule.specs.Sound.{Finds, Sound}
 use Rattle.rh_rule.specs.Traces.{Touch, touched}
+use Rattle.rh_steps.specs.Relies.{Trusts}
 use Rattle.rh_shared.specs.declared.on_table.OnTable.{OnTable}
 use Rattle.rh_shared.specs.Traces.{trace_in}
 
@@ -31,7 +32,14 @@ pub record Stays (t then : OnTable) : Type 0 where
   pub id : then.seat.now.id ≡ t.seat.now.id
   pub lent : then.seat ≡ record t.seat { now = then.seat.now }
 
--- and it made just this step, which found this word, and the rule tells what was so then
+-- and what is kept of its worker is so of the words too
+pub record StaysTrusted (z : Shape) (t then : OnTable) (next : View) : Type 0 where
+  pub stays : Stays t then
+  pub open stays use *
+  pub trusts : Trusts Sits z then next
+  pub open trusts use *
+
+-- it is the same seat, and it made just this step, which found this word, and the rule tells what was so then
 pub record Steps (z : Shape) (s : Step) (t : OnTable) (v : View) (word : ℕ) (then : OnTable) (next : View) : Type 0 where
   pub stays : Stays t then
   pub open stays use *

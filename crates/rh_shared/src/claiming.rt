@@ -1,9 +1,9 @@
 //! Claiming the places of a list that several workers share.
 
 ghost use Rattle.std.specs.Prelude.{◌<◌, ℕ};
-ghost use Rattle.rh_shared.specs.Rests.{SeatRests};
+ghost use Rattle.rh_shared.specs.Rests.{SeatRests, StaysAtRest};
 ghost use Rattle.rh_shared.specs.Claims.{ClaimsOne};
-ghost use Rattle.rh_shared.specs.Seats.{IsSame, sitter_of, view_of};
+ghost use Rattle.rh_shared.specs.Seats.{sitter_of, view_of};
 ghost use Rattle.rh_world.specs.World.{In};
 
 use crate::on_table::OnTable;
@@ -16,8 +16,7 @@ use rh_words::Request;
 pub fn claim(table: &Table, seat: &mut Seat) -> Option<u64>
     requires rests { SeatRests table.now seat.old }
     requires keys { (n : ℕ) → In n (view_of seat.old).side.claims → n < table.now.shape.keys }
-    ensures rests { SeatRests table.now seat.new }
-    ensures same { IsSame seat.old seat.new }
+    ensures stays { StaysAtRest table.now seat.old seat.new }
     ensures claims { ClaimsOne table.now.shape (sitter_of seat.old) (sitter_of seat.new) result }
 {
     let mut here = OnTable {

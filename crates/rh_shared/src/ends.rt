@@ -1,7 +1,7 @@
 //! How a table is made, and what it leaves.
 
 ghost use Rattle.std.specs.Prelude.{◌≡◌, ◌<◌, IfOk, ℕ, List, None, length, map, slice_index};
-ghost use Rattle.rh_words.specs.Parts.{IsShape, cell_count};
+ghost use Rattle.rh_words.specs.Parts.{cell_count};
 ghost use Rattle.rh_shared.specs.Crews.{HasAll, IsFresh, IsQuiet, UsedNoRow, views_of};
 ghost use Rattle.rh_shared.specs.Ends.{Leaves};
 ghost use Rattle.rh_shared.specs.Rests.{SeatRests};
@@ -20,8 +20,6 @@ use std::snapshot::Snapshot;
 /// It takes values, as `close` hands them out; `kcas` and `read` speak of words, as entries do. The
 /// cells are kept for contracts alone, so that one vector is filled.
 pub fn make(alloc: Global, shape: Shape, cells: &[u64]) -> Result<(Table, Seat), AllocError>
-    requires shape { IsShape shape }
-    requires some { 0 < shape.workers }
     requires sized { length cells.now ≡ cell_count shape }
     requires values { (c : ℕ) → c < length cells.now → IsValue (slice_index cells.now c) }
     ensures shape { IfOk result (λ r. r.0.shape ≡ shape) }

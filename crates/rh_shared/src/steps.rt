@@ -30,13 +30,9 @@ impl Makes for Brand {
     ghost use Rattle.std.specs.Prelude.{[]};
     ghost use Rattle.rh_words.specs.Steps.Step.{claims};
     ghost use Rattle.rh_words.specs.View.{new_view};
+    ghost use Rattle.rh_shared.specs.Least.{least_shape};
 
-    ghost shape = { record {
-      bits = 3;
-      workers = 0;
-      keys = 0;
-      rooms = record { descriptors = 0; marks = 0 };
-    } };
+    ghost shape = { least_shape };
 
     ghost view = { new_view [] 0 };
 

@@ -1,7 +1,7 @@
 //! A table that threads share.
 
 ghost use Rattle.std.specs.Prelude.{◌≡◌};
-ghost use Rattle.rh_words.specs.Parts.{IsShape, word_count};
+ghost use Rattle.rh_words.specs.Parts.{word_count};
 
 use rh_rule::{RowRule, Sitter, TableKey};
 use rh_words::Shape;
@@ -19,5 +19,4 @@ pub struct Table {
     pub ghost same: { inner.shared.key.shape ≡ shape },
     pub ghost sized: { inner.shared.table_id.words ≡ word_count shape },
     pub ghost bare: { inner.shared.table_id.slots ≡ 0 },
-    pub ghost fits: { IsShape shape },
 }

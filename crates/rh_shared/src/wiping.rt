@@ -58,7 +58,6 @@ pub fn wipe(table: &Table, seat: &mut Seat)
 fn wipe_rows(table: &Table, seat: &mut Inner)
     requires own { seat.old.table_id ≡ table.now.inner.shared.table_id }
     requires empty { seat.old.me.1 ≡ [] }
-    requires some { 0 < table.now.shape.workers }
     requires all { Spans seat.old.me.0 0 table.now.shape.workers }
     requires rest { InView IsQuiet seat.old.me.0 }
     ensures own { seat.new.table_id ≡ seat.old.table_id }
@@ -76,7 +75,6 @@ fn wipe_rows(table: &Table, seat: &mut Inner)
 fn begin(table: &Table, seat: &mut Inner)
     requires own { seat.old.table_id ≡ table.now.inner.shared.table_id }
     requires empty { seat.old.me.1 ≡ [] }
-    requires some { 0 < table.now.shape.workers }
     requires all { Spans seat.old.me.0 0 table.now.shape.workers }
     requires rest { InView IsQuiet seat.old.me.0 }
     ensures own { seat.new.table_id ≡ seat.old.table_id }
@@ -89,7 +87,6 @@ fn begin(table: &Table, seat: &mut Inner)
 fn clear(table: &Table, seat: &mut Inner, row: usize)
     requires own { seat.old.table_id ≡ table.now.inner.shared.table_id }
     requires empty { seat.old.me.1 ≡ [] }
-    requires some { 0 < table.now.shape.workers }
     requires all { Spans seat.old.me.0 0 table.now.shape.workers }
     requires row { row < row_total table.now.shape }
     requires wiping { (cells : List ℕ) × InView (IsWiping cells row) seat.old.me.0 }
@@ -103,7 +100,6 @@ fn clear(table: &Table, seat: &mut Inner, row: usize)
 fn finish(table: &Table, seat: &mut Inner)
     requires own { seat.old.table_id ≡ table.now.inner.shared.table_id }
     requires empty { seat.old.me.1 ≡ [] }
-    requires some { 0 < table.now.shape.workers }
     requires all { Spans seat.old.me.0 0 table.now.shape.workers }
     requires wiping { (cells : List ℕ)
         × InView (IsWiping cells (row_total table.now.shape)) seat.old.me.0 }

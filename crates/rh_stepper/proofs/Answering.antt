@@ -65,7 +65,7 @@ module _ (g : Game) (worker position : ℕ) (h : Hand) (inside : worker < length
 module _ (g : Game) (plays : Plays g) where
   not_claimed : is_shared g ≡ false → All IsClaiming g.hands → ⊥
   not_claimed not_shared all =
-      let some : 0 < length g.hands = in_hands g plays 0 plays.some in
+      let some : 0 < length g.hands = in_hands g plays 0 g.shape.some_worker in
       let h : Hand = some_hand g plays in
       let claims = all 0 h some in
       true≢false (sym (ap is_claimed claims.2) ∙ sym (at_hand_is (λ h. is_claimed h.share) false g.hands 0 h some) ∙ not_shared)

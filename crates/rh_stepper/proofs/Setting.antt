@@ -9,7 +9,7 @@ use Rattle.rh_layout.specs.declared.limits.TheConstants.{MAX_KEY}
 use Rattle.rh_ledger.specs.declared.tally.Kind.{Kind}
 use Rattle.rh_tagword.specs.Word.{IsValue, plain_number}
 use Rattle.rh_words.specs.declared.shape.Shape.{Shape}
-use Rattle.rh_words.specs.Parts.{IsShape, cell_count, word_count}
+use Rattle.rh_words.specs.Parts.{cell_count, word_count}
 use Rattle.rh_words.specs.View.{new_view}
 use Rattle.rh_rule.specs.Wipes.{row_total}
 use Rattle.rh_acts.specs.Workers.{LeavesRoom}
@@ -71,7 +71,7 @@ will_claim shares hands shares_are all v d inside =
 -- ---- the whole
 
 module _ (kind : Kind) (z : Shape) (cells keys : List ℕ) (shares : List Share) (opening words plain all : List ℕ) (answers : List (Option Bool)) (hands : List Hand)
-    (shape : IsShape z) (some : 0 < z.workers) (workers : length shares ≡ z.workers) (layout : IsLayout z.bits cells) (room : LeavesRoom kind z.bits (keys_of cells) keys)
+    (workers : length shares ≡ z.workers) (layout : IsLayout z.bits cells) (room : LeavesRoom kind z.bits (keys_of cells) keys)
     (are_keys : All IsKey keys) (dealt : AreShares z shares (length keys))
     (opening_is : opening ≡ cells) (words_are : words ≡ map plain_number cells) (plain_is : plain ≡ words) (n : ℕ) (n_is : n ≡ word_count z) (m : ℕ) (m_is : m ≡ length words)
     (all_is : all ≡ take n words ++ replicate (n - m) 0) (none_told : answers ≡ replicate (length keys) None) (shares_are : shares_of hands ≡ shares) (new : AreNew kind z plain hands) where
@@ -90,8 +90,6 @@ module _ (kind : Kind) (z : Shape) (cells keys : List ℕ) (shares : List Share)
 
   pub starts : GameStarts game
   starts = record {
-    shape = shape;
-    some = some;
     workers = as_many;
     opening = subst (IsLayout z.bits) (sym opening_is) layout;
     room = subst (λ (cs : List ℕ). LeavesRoom kind z.bits (keys_of cs) keys) (sym opening_is) room;

@@ -32,7 +32,7 @@ pub all_now : (g : Game) → Plays g → (cells : List ℕ) → length cells ≡
     → AreNow g.shape g.words (keep g) cells
 all_now g plays cells size each =
     let w = plays.running.world in
-    let one = λ (c word : ℕ) (inside : c < cell_count g.shape) (is : IsLogicalWord g.shape g.words (keep g) c word). logical_words w g.shape g.words (keep g) c word plays.shape plays.running.core inside is in
+    let one = λ (c word : ℕ) (inside : c < cell_count g.shape) (is : IsLogicalWord g.shape g.words (keep g) c word). logical_words w g.shape g.words (keep g) c word plays.running.core inside is in
     record {
       size = size;
       stands = λ c inside. let it = each c inside in (it.word, it.stands);

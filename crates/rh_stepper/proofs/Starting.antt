@@ -13,8 +13,6 @@ use Rattle.rh_layout.specs.declared.limits.TheConstants.{MAX_KEY}
 use Rattle.rh_ledger.specs.declared.tally.Kind.{Kind}
 use Rattle.rh_ledger.specs.Phase.{most_added}
 use Rattle.rh_words.specs.declared.limits.TheConstants.{MAX_WORKERS}
-use Rattle.rh_words.specs.declared.shape.Rooms.{Rooms}
-use Rattle.rh_words.specs.Parts.{IsShape}
 use Rattle.rh_acts.specs.Workers.{LeavesRoom}
 use Rattle.rh_turns.specs.declared.hand.Hand.{Hand}
 use Rattle.rh_turns.specs.declared.hand.Share.{Share}
@@ -24,7 +22,7 @@ use Rattle.rh_turns.proofs.AtHands.{at_hand_is, first_of_all}
 use Rattle.rh_stepper.specs.declared.fault.PlayFault.{PlayFault}
 use Rattle.rh_stepper.specs.declared.fault.PlayFault.TheVariants.{NotALayout, NoRoom, BadWorkers, BadKey, Memory}
 use Rattle.rh_stepper.specs.SetUp.{AreDealt}
-use Rattle.rh_stepper.specs.Start.{IsRooms, MakesPlayer, Refuses, are_keys, keys_of_pieces, shape_for, start_fault, table_fault, then_keys}
+use Rattle.rh_stepper.specs.Start.{MakesPlayer, Refuses, are_keys, keys_of_pieces, start_fault, table_fault, then_keys}
 use Rattle.rh_stepper.proofs.Dealing.{joined_more}
 use Rattle.rh_stepper.proofs.Room.{leaves_room}
 
@@ -95,8 +93,8 @@ module _ (kind : Kind) (bits : ℕ) (cells : List ℕ) (workers : ℕ) (keys : L
     said : (count_by is_full cells + most_added kind keys < 2 ^ bits) × (1 ≤ workers) × (workers ≤ MAX_WORKERS)
     said = table_says bits cells workers (most_added kind keys) none
 
-    pub is_shape : (rooms : Rooms) → IsRooms rooms → (shared : ℕ) → shared < 2 ^ 63 → IsShape (shape_for bits workers rooms shared)
-    is_shape rooms limits shared small = record { bits = layout.bits; workers = said.2; descriptors = limits.0; marks = limits.1; keys = small }
+    pub are_workers : (0 < workers) × (workers ≤ MAX_WORKERS)
+    are_workers = (said.1, said.2)
 
     pub has_room : LeavesRoom kind bits (keys_of cells) keys
     has_room = leaves_room kind bits cells keys layout said.0

@@ -140,7 +140,7 @@ module _ (g : Game) (plays : Plays g) where
       let z : Shape = g.shape in
       let run = plays.running in
       let d : Hand = some_hand g plays in
-      let some : 0 < length g.hands = in_hands g plays 0 plays.some in
+      let some : 0 < length g.hands = in_hands g plays 0 g.shape.some_worker in
       let each : (v : ℕ) (d : Hand) → v < length g.hands → length (positions z (get_or g.hands v d)) ≤ length (claimed z (keep g (0 + v))) = λ v d inside.
       let c = are v d inside in
       let most = done_claimed z (get_or g.hands v d) c.0 c.1 (done_few v d (Claims c.0 c.1) inside c.2).1 in

@@ -46,14 +46,16 @@ Refuses (Some first) fault = fault ≡ first
 abbrev pub IsRooms : Rooms → Type 0
 IsRooms rooms = (rooms.descriptors ≤ MAX_ROOM) × (rooms.marks ≤ MAX_ROOM)
 
--- with this length of the list that is shared, 0 if none is
-abbrev pub shape_for : (bits workers : ℕ) → Rooms → (shared : ℕ) → Shape
-shape_for bits workers rooms shared = record { bits = bits; workers = workers; keys = shared; rooms = rooms }
+-- The shape has these sizes, with this length of the list that is shared, 0 if none is.
+pub record HasSizes (bits workers : ℕ) (rooms : Rooms) (shared : ℕ) (z : Shape) : Type 0 where
+  pub bits_are : z.bits ≡ bits
+  pub workers_are : z.workers ≡ workers
+  pub rooms_are : z.rooms ≡ rooms
+  pub shared_is : z.keys ≡ shared
 
 -- It does these keys on a table of these cells, and no step is made yet.
-pub record StartsWith (kind : Kind) (z : Shape) (cells keys : List ℕ) (g : Game) : Type 0 where
+pub record StartsWith (kind : Kind) (cells keys : List ℕ) (g : Game) : Type 0 where
   pub kind_is : g.kind ≡ kind
-  pub shape_is : g.shape ≡ z
   pub opening_is : g.opening ≡ cells
   pub keys_are : g.keys ≡ keys
   pub starts : GameStarts g
@@ -64,12 +66,14 @@ keys_of_pieces pieces = flat_map (λ piece. piece.items) pieces
 
 -- each worker has its piece
 pub record StartsPieces (kind : Kind) (bits : ℕ) (rooms : Rooms) (cells : List ℕ) (pieces : List (Vec ℕ Global)) (g : Game) : Type 0 where
-  pub start : StartsWith kind (shape_for bits (length pieces) rooms 0) cells (keys_of_pieces pieces) g
+  pub sizes : HasSizes bits (length pieces) rooms 0 g.shape
+  pub start : StartsWith kind cells (keys_of_pieces pieces) g
   pub pieces_are : (v : ℕ) (other : Vec ℕ Global) → v < length pieces → keys_at g v ≡ (slice_index_or pieces v other).items
 
 -- so many workers claim the keys
 pub record StartsShared (kind : Kind) (bits workers : ℕ) (rooms : Rooms) (cells keys : List ℕ) (g : Game) : Type 0 where
-  pub start : StartsWith kind (shape_for bits workers rooms (length keys)) cells keys g
+  pub sizes : HasSizes bits workers rooms (length keys) g.shape
+  pub start : StartsWith kind cells keys g
   pub claims : All WillClaim g.hands
 
 -- what comes of a call that makes a player

@@ -4,7 +4,7 @@ ghost use Rattle.std.specs.Prelude.{◌≡◌, ◌<◌, None, Some, false, lengt
 ghost use Rattle.rh_layout.specs.Layout.{Layout};
 ghost use Rattle.rh_ledger.specs.Phase.{set_after, tally_of as tally_after};
 ghost use Rattle.rh_ledger.specs.declared.tally.Kind.TheVariants.{Ask};
-ghost use Rattle.rh_words.specs.Parts.{IsShape, cell_count};
+ghost use Rattle.rh_words.specs.Parts.{cell_count};
 ghost use Rattle.rh_tagword.specs.Word.{word_in};
 ghost use Rattle.rh_ledger.specs.Tally.{tally_by};
 ghost use Rattle.rh_turns.specs.Game.{AllFinished, IsDoneAt, done_at, keys_at};
@@ -27,8 +27,7 @@ impl Player {
 
     /// How large the table is.
     pub fn shape(&self) -> Shape
-        ensures same { result ≡ self.now.shape }
-        ensures shape { IsShape result }
+        ensures { result ≡ self.now.shape }
     {
         let Player { shape, .. } = self;
         *shape

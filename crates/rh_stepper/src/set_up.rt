@@ -3,7 +3,6 @@
 ghost use Rattle.std.specs.Prelude.{◌≡◌, ◌<◌, All, IfOk, length};
 ghost use Rattle.rh_layout.specs.Key.{IsKey};
 ghost use Rattle.rh_layout.specs.Layout.{IsLayout, keys_of};
-ghost use Rattle.rh_words.specs.Parts.{IsShape};
 ghost use Rattle.rh_acts.specs.Workers.{LeavesRoom};
 ghost use Rattle.rh_turns.specs.Game.{ArePieces, shares_of};
 ghost use Rattle.rh_stepper.specs.SetUp.{AreDealt, AreNew, AreShares, ClaimsAll};
@@ -56,14 +55,13 @@ pub(crate) fn set_up(
     keys: Vec<u64>,
     shares: &[Share],
 ) -> Result<Player, AllocError>
-    requires shape { IsShape shape }
-    requires some { 0 < shape.workers }
     requires workers { length shares.now ≡ shape.workers }
     requires opening { IsLayout shape.bits cells.now }
     requires room { LeavesRoom kind shape.bits (keys_of cells.now) keys.items }
     requires keys { All IsKey keys.items }
     requires dealt { AreShares shape shares.now (length keys.items) }
-    ensures start { IfOk result (StartsWith kind shape cells.now keys.items) }
+    ensures shape { IfOk result (λ player. player.shape ≡ shape) }
+    ensures start { IfOk result (StartsWith kind cells.now keys.items) }
     ensures shares { IfOk result (λ player. shares_of player.hands ≡ shares.now) }
 {
     let opening = cells.to_vec(alloc)?;
@@ -91,7 +89,6 @@ fn new_hands(
     words: &[u64],
     shares: &[Share],
 ) -> Result<Vec<Hand>, AllocError>
-    requires { IsShape shape.now }
     ensures shares { IfOk result (λ hands. shares_of hands.items ≡ shares.now) }
     ensures new { IfOk result (λ hands. AreNew kind shape.now words.now hands.items) }
 {

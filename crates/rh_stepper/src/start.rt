@@ -1,12 +1,14 @@
 //! Players that are made.
 
-ghost use Rattle.std.specs.Prelude.{◌≡◌, ℕ, IfOk, List, None, Some, MatchResult, length};
+ghost use Rattle.std.specs.Prelude.{◌≡◌, ◌^◌, ◌≤◌, ◌<◌, ℕ, IfOk, List, None, Some, MatchResult, length};
+ghost use Rattle.rh_layout.specs.Key.{IsBits};
 ghost use Rattle.rh_layout.specs.Layout.{IsLayout};
 ghost use Rattle.rh_ledger.specs.Phase.{most_added};
 ghost use Rattle.rh_stepper.specs.Made.{cut};
-ghost use Rattle.rh_stepper.specs.Start.{IsRooms, MakesPlayer, StartsPieces, StartsShared};
-ghost use Rattle.rh_stepper.specs.Start.{are_keys, keys_of_pieces, shape_for, start_fault, table_fault};
+ghost use Rattle.rh_stepper.specs.Start.{HasSizes, IsRooms, MakesPlayer, StartsPieces, StartsShared};
+ghost use Rattle.rh_stepper.specs.Start.{are_keys, keys_of_pieces, start_fault, table_fault};
 ghost use Rattle.rh_words.specs.Parts.{usual_rooms};
+ghost use Rattle.rh_words.specs.declared.limits.TheConstants.{MAX_WORKERS};
 
 use crate::fault::PlayFault;
 use crate::player::Player;
@@ -156,7 +158,11 @@ fn count_keys(pieces: &[Vec<u64>]) -> usize
 // ---- what is made
 
 fn shape_for(bits: u32, workers: usize, rooms: Rooms, keys: u64) -> Shape
-    ensures { result ≡ shape_for bits workers rooms keys }
+    requires bits { IsBits bits }
+    requires workers { (0 < workers) × (workers ≤ MAX_WORKERS) }
+    requires rooms { IsRooms rooms }
+    requires keys { keys < 2 ^ 63 }
+    ensures { HasSizes bits workers rooms keys result }
 {
     Shape {
         bits,

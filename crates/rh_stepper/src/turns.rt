@@ -1,7 +1,7 @@
 //! Turns and rounds.
 
 ghost use Rattle.std.specs.Prelude.{◌≡◌, ◌↔◌, All, IsFalse, IsTrue, length};
-ghost use Rattle.rh_words.specs.Parts.{IsShape, word_count};
+ghost use Rattle.rh_words.specs.Parts.{word_count};
 ghost use Rattle.rh_run.specs.Words.{IsWiped};
 ghost use Rattle.rh_worker.specs.Worker.{IsWorker};
 ghost use Rattle.rh_turns.specs.Game.{AllFinished, AllStopped};
@@ -101,7 +101,6 @@ fn is_stopped(hand: &Hand) -> bool
 
 /// Sets all words of rows to 0. Each worker begins the round with the cells as they stand.
 fn begin_round(shape: &Shape, words: &mut [u64], hands: &mut [Hand])
-    requires shape { IsShape shape.now }
     requires sized { length words.old ≡ word_count shape.now }
     requires workers { All (λ h. IsWorker shape.now h.worker) hands.old }
     requires stopped { All IsStopped hands.old }

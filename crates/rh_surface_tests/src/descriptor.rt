@@ -1,30 +1,28 @@
 //! The words of a shared table, and the steps of a worker on them.
 
-ghost use Rattle.rh_words.specs.Parts.{IsPart, IsShape, word_count};
+ghost use Rattle.rh_words.specs.Parts.{IsPart, word_count};
 ghost use Rattle.rh_words.specs.Steps.{Allowed};
 ghost use Rattle.rh_words.specs.Steps.Step.{claims, decides, opens, places, reads, releases, settles, writes};
 ghost use Rattle.rh_words.specs.Words.{control_of, ref_of};
-ghost use Rattle.std.specs.Prelude.{length, option_map, ◌≡◌};
+ghost use Rattle.rh_layout.specs.Key.{IsBits};
+ghost use Rattle.rh_words.specs.declared.limits.TheConstants.{MAX_ROOM, MAX_WORKERS};
+ghost use Rattle.std.specs.Prelude.{length, option_map, ◌≡◌, ◌≤◌, ◌<◌};
 
 pub use rh_descriptor::{RowRule, a_wipe_keeps, each_step_keeps};
 use rh_descriptor::{Entry, Part, Piece, Reading, Ref, Rooms, Shape, Side, StepKind};
 use rh_tagword::State;
 
-pub fn shape_words(shape: &Shape) -> usize
-    requires { IsShape shape.now }
-{
+pub fn shape_words(shape: &Shape) -> usize {
     shape.words()
 }
 
 pub fn shape_index(shape: &Shape, part: Part) -> usize
-    requires shape { IsShape shape.now }
-    requires part { IsPart shape.now part }
+    requires { IsPart shape.now part }
 {
     shape.index(part)
 }
 
 pub fn write_word(shape: &Shape, words: &mut [u64], side: &mut Side, part: Part, word: u64)
-    requires shape { IsShape shape.now }
     requires sized { length words.old ≡ word_count shape.now }
     requires allowed { Allowed shape.now side.old.known.view (writes part word) }
 {
@@ -32,7 +30,6 @@ pub fn write_word(shape: &Shape, words: &mut [u64], side: &mut Side, part: Part,
 }
 
 pub fn open_desc(shape: &Shape, words: &mut [u64], side: &mut Side, entries: usize)
-    requires shape { IsShape shape.now }
     requires sized { length words.old ≡ word_count shape.now }
     requires allowed { Allowed shape.now side.old.known.view (opens entries) }
 {
@@ -40,7 +37,6 @@ pub fn open_desc(shape: &Shape, words: &mut [u64], side: &mut Side, entries: usi
 }
 
 pub fn read_word(shape: &Shape, words: &mut [u64], side: &mut Side, reading: Reading) -> u64
-    requires shape { IsShape shape.now }
     requires sized { length words.old ≡ word_count shape.now }
     requires allowed { Allowed shape.now side.old.known.view (reads reading) }
 {
@@ -48,7 +44,6 @@ pub fn read_word(shape: &Shape, words: &mut [u64], side: &mut Side, reading: Rea
 }
 
 pub fn place_mark(shape: &Shape, words: &mut [u64], side: &mut Side, piece: Piece, old: u64) -> u64
-    requires shape { IsShape shape.now }
     requires sized { length words.old ≡ word_count shape.now }
     requires allowed { Allowed shape.now side.old.known.view
         (places (ref_of piece.desc) piece.entry piece.cell old) }
@@ -64,7 +59,6 @@ pub fn settle_mark(
     piece: Piece,
     old: Option<u64>,
 ) -> u64
-    requires shape { IsShape shape.now }
     requires sized { length words.old ≡ word_count shape.now }
     requires allowed { Allowed shape.now side.old.known.view
         (settles (ref_of mark) piece.cell (ref_of piece.desc) piece.entry old) }
@@ -79,7 +73,6 @@ pub fn decide_desc(
     desc: Ref,
     state: State,
 ) -> u64
-    requires shape { IsShape shape.now }
     requires sized { length words.old ≡ word_count shape.now }
     requires allowed { Allowed shape.now side.old.known.view
         (decides (ref_of desc) (control_of state)) }
@@ -95,7 +88,6 @@ pub fn release_cell(
     state: Option<State>,
     value: u64,
 ) -> u64
-    requires shape { IsShape shape.now }
     requires sized { length words.old ≡ word_count shape.now }
     requires allowed { Allowed shape.now side.old.known.view
         (releases (ref_of piece.desc) piece.entry piece.cell (option_map control_of state) value) }
@@ -104,7 +96,6 @@ pub fn release_cell(
 }
 
 pub fn claim_key(shape: &Shape, words: &mut [u64], side: &mut Side) -> u64
-    requires shape { IsShape shape.now }
     requires sized { length words.old ≡ word_count shape.now }
     requires allowed { Allowed shape.now side.old.known.view claims }
 {
@@ -124,7 +115,11 @@ pub fn variants(kind: StepKind) {
     }
 }
 
-pub fn fields(bits: u32, workers: usize, number: u64, cell: usize) -> (Shape, Entry) {
+pub fn fields(bits: u32, workers: usize, number: u64, cell: usize) -> (Shape, Entry)
+    requires bits { IsBits bits }
+    requires workers { (0 < workers) × (workers ≤ MAX_WORKERS) }
+    requires number { number ≤ MAX_ROOM }
+{
     let shape = Shape {
         bits,
         workers,

@@ -1,6 +1,6 @@
 //! Swaps of several cells.
 
-ghost use Rattle.rh_words.specs.Parts.{IsShape, cell_count};
+ghost use Rattle.rh_words.specs.Parts.{cell_count};
 ghost use Rattle.rh_words.specs.Steps.{AreEntries, IsKnown};
 ghost use Rattle.rh_words.specs.Words.{ref_of};
 ghost use Rattle.rh_shared.specs.Crews.{HasAll, SitsAt, IsQuiet, UsedNoRow, views_of};
@@ -17,8 +17,6 @@ use std::alloc::{AllocError, Global};
 use std::sync::Wait;
 
 pub fn make(alloc: Global, shape: Shape, cells: &[u64]) -> Result<(Table, Seat), AllocError>
-    requires shape { IsShape shape }
-    requires some { 0 < shape.workers }
     requires sized { length cells.now ≡ cell_count shape }
     requires values { (c : ℕ) → c < length cells.now → IsValue (slice_index cells.now c) }
 {

@@ -3,10 +3,10 @@
 ghost use Rattle.rh_words.specs.Parts.{cell_count};
 ghost use Rattle.rh_words.specs.Steps.{IsDesc};
 ghost use Rattle.rh_words.specs.Words.{ref_of};
-ghost use Rattle.rh_shared.specs.Seats.{IsHere, view_of};
+ghost use Rattle.rh_shared.specs.Rests.{SeatKnows};
+ghost use Rattle.rh_shared.specs.Seats.{view_of};
 ghost use Rattle.rh_rdcss.specs.Placing.{HasEntry, MayPlace};
 ghost use Rattle.rh_rdcss.specs.Settling.{Recalls};
-ghost use Rattle.rh_steps.specs.Relies.{Knows};
 ghost use Rattle.rh_world.specs.Facts.Fact.{found};
 ghost use Rattle.rh_world.specs.World.{In};
 ghost use Rattle.std.specs.Prelude.{◌<◌, ◌≡◌};
@@ -16,24 +16,21 @@ use rh_rdcss::{Placed, Seat, Table};
 use rh_tagword::State;
 
 pub fn place(table: &Table, seat: &mut Seat, desc: Ref, entry: usize) -> Placed
-    requires here { IsHere table.now seat.old }
-    requires knows { Knows table.now.shape (view_of seat.old) }
+    requires knows { SeatKnows table.now seat.old }
     requires entry { HasEntry table.now.shape (view_of seat.old) desc entry }
 {
     rh_rdcss::place(table, seat, desc, entry)
 }
 
 pub fn count_entries(table: &Table, seat: &mut Seat, desc: Ref) -> Option<usize>
-    requires here { IsHere table.now seat.old }
-    requires knows { Knows table.now.shape (view_of seat.old) }
+    requires knows { SeatKnows table.now seat.old }
     requires may { MayPlace table.now.shape (view_of seat.old) desc }
 {
     rh_rdcss::count_entries(table, seat, desc)
 }
 
 pub fn settle(table: &Table, seat: &mut Seat, cell: usize, mark: Ref) -> Option<u64>
-    requires here { IsHere table.now seat.old }
-    requires knows { Knows table.now.shape (view_of seat.old) }
+    requires knows { SeatKnows table.now seat.old }
     requires found { In (found (ref_of mark) cell) (view_of seat.old).side.facts }
     requires own { mark.worker ≡ (view_of seat.old).worker →
         Recalls (view_of seat.old) mark seat.old.placed }
@@ -42,16 +39,14 @@ pub fn settle(table: &Table, seat: &mut Seat, cell: usize, mark: Ref) -> Option<
 }
 
 pub fn peek_cell(table: &Table, seat: &mut Seat, cell: usize) -> u64
-    requires here { IsHere table.now seat.old }
-    requires knows { Knows table.now.shape (view_of seat.old) }
+    requires knows { SeatKnows table.now seat.old }
     requires cell { cell < cell_count table.now.shape }
 {
     rh_rdcss::peek_cell(table, seat, cell)
 }
 
 pub fn status(table: &Table, seat: &mut Seat, desc: Ref) -> Option<State>
-    requires here { IsHere table.now seat.old }
-    requires knows { Knows table.now.shape (view_of seat.old) }
+    requires knows { SeatKnows table.now seat.old }
     requires desc { IsDesc table.now.shape (ref_of desc) }
 {
     rh_rdcss::status(table, seat, desc)

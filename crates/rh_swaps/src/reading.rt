@@ -5,10 +5,10 @@ ghost use Rattle.rh_words.specs.Parts.{cell_count};
 ghost use Rattle.rh_steps.specs.Own.{IsClear};
 ghost use Rattle.rh_helping.specs.Looking.{IsLooking};
 ghost use Rattle.rh_helping.specs.Machine.{looking_of};
-ghost use Rattle.rh_shared.specs.Rests.{SeatRests};
+ghost use Rattle.rh_shared.specs.Rests.{SeatRests, StaysAtRest};
 ghost use Rattle.rh_swaps.specs.Swaps.{HasReadCell};
-ghost use Rattle.rh_shared.specs.Seats.{IsSame, view_of};
-ghost use Rattle.rh_shared.specs.Sits.{Sits, Stays};
+ghost use Rattle.rh_shared.specs.Seats.{view_of};
+ghost use Rattle.rh_shared.specs.Sits.{Sits, StaysTrusted};
 ghost use Rattle.rh_rule.specs.Rest.{IsTold, made};
 ghost use Rattle.rh_steps.specs.Relies.{Trusts};
 
@@ -22,8 +22,7 @@ use std::sync::Wait;
 pub fn read<R: Wait>(rt: &R, table: &Table, seat: &mut Seat, cell: usize) -> Option<u64>
     requires rests { SeatRests table.now seat.old }
     requires cell { cell < cell_count table.now.shape }
-    ensures rests { SeatRests table.now seat.new }
-    ensures same { IsSame seat.old seat.new }
+    ensures stays { StaysAtRest table.now seat.old seat.new }
     ensures acts { made (view_of seat.new) ≡ made (view_of seat.old) }
     ensures reads { HasReadCell table.now.shape cell (view_of seat.old) (view_of seat.new) result }
     ensures told { IsTold table.now.shape (view_of seat.new) }
@@ -47,9 +46,8 @@ fn look<R: Wait>(
     requires trusts { Trusts Sits shape.now here.old side.old.known.view }
     requires clear { IsClear side.old.known.view }
     requires cell { cell < cell_count shape.now }
-    ensures trusts { Trusts Sits shape.now here.new side.new.known.view }
+    ensures stays { StaysTrusted shape.now here.old here.new side.new.known.view }
     ensures clear { IsClear side.new.known.view }
-    ensures stays { Stays here.old here.new }
     ensures told { IsTold shape.now side.new.known.view }
     ensures reads { HasReadCell shape.now cell side.old.known.view side.new.known.view result }
 {
@@ -79,9 +77,8 @@ fn look_on_copy<R: Wait>(
     requires trusts { Trusts Sits shape.now here.old side.old.known.view }
     requires looking { IsLooking shape.now side.old.known.view (looking_of watch machine.now) }
     requires cell { cell < cell_count shape.now }
-    ensures trusts { Trusts Sits shape.now here.new side.new.known.view }
+    ensures stays { StaysTrusted shape.now here.old here.new side.new.known.view }
     ensures clear { IsClear side.new.known.view }
-    ensures stays { Stays here.old here.new }
     ensures told { IsTold shape.now side.new.known.view }
     ensures reads { HasReadCell shape.now cell side.old.known.view side.new.known.view result }
 {
@@ -104,9 +101,8 @@ fn look_on<R: Wait>(
     requires trusts { Trusts Sits shape.now here.old side.old.known.view }
     requires looking { IsLooking shape.now side.old.known.view (looking_of watch machine.old) }
     requires cell { cell < cell_count shape.now }
-    ensures trusts { Trusts Sits shape.now here.new side.new.known.view }
+    ensures stays { StaysTrusted shape.now here.old here.new side.new.known.view }
     ensures clear { IsClear side.new.known.view }
-    ensures stays { Stays here.old here.new }
     ensures told { IsTold shape.now side.new.known.view }
     ensures reads { HasReadCell shape.now cell side.old.known.view side.new.known.view result }
 {

@@ -8,11 +8,11 @@ ghost use Rattle.rh_helping.specs.Goal.{opened_by, own_of};
 ghost use Rattle.rh_helping.specs.Machine.{work_of};
 ghost use Rattle.rh_helping.specs.Opening.{MayOpen, next_own};
 ghost use Rattle.rh_helping.specs.Work.{Stands};
-ghost use Rattle.rh_shared.specs.Rests.{SeatRests};
+ghost use Rattle.rh_shared.specs.Rests.{SeatRests, StaysAtRest};
 ghost use Rattle.rh_swaps.specs.Swaps.{HasCarriedOut, HasNoRoom, HasOpened, Swaps};
 ghost use Rattle.rh_swaps.specs.declared.swapping.Outcome.TheVariants.{Spent};
-ghost use Rattle.rh_shared.specs.Seats.{IsSame, view_of};
-ghost use Rattle.rh_shared.specs.Sits.{Sits, Stays};
+ghost use Rattle.rh_shared.specs.Seats.{view_of};
+ghost use Rattle.rh_shared.specs.Sits.{Sits, StaysTrusted};
 ghost use Rattle.rh_steps.specs.Relies.{Trusts};
 
 use rh_helping::{Ended, Machine, OpenDesc, Opening, Progress};
@@ -39,8 +39,7 @@ pub enum Outcome {
 pub fn kcas<R: Wait>(rt: &R, table: &Table, seat: &mut Seat, entries: &[Entry]) -> Outcome
     requires rests { SeatRests table.now seat.old }
     requires entries { AreEntries table.now.shape entries.now }
-    ensures rests { SeatRests table.now seat.new }
-    ensures same { IsSame seat.old seat.new }
+    ensures stays { StaysAtRest table.now seat.old seat.new }
     ensures full { HasNoRoom table.now.shape (view_of seat.old) (view_of seat.old) →
         (seat.new ≡ seat.old) × (result ≡ Spent) }
     ensures swaps { Swaps table.now.shape entries.now (view_of seat.old) (view_of seat.new) result }
@@ -73,8 +72,7 @@ pub fn kcas<R: Wait>(rt: &R, table: &Table, seat: &mut Seat, entries: &[Entry]) 
 pub fn open(shape: &Shape, here: &mut OnTable, side: &mut Side, entries: &[Entry])
     requires trusts { Trusts Sits shape.now here.old side.old.known.view }
     requires may { MayOpen shape.now side.old.known.view entries.now }
-    ensures trusts { Trusts Sits shape.now here.new side.new.known.view }
-    ensures stays { Stays here.old here.new }
+    ensures stays { StaysTrusted shape.now here.old here.new side.new.known.view }
     ensures opens { HasOpened side.old.known.view
         (next_own side.old.known.view entries.now) side.new.known.view }
 {
@@ -97,8 +95,7 @@ pub fn carry_out<R: Wait>(
     requires trusts { Trusts Sits shape.now here.old side.old.known.view }
     requires own { KnowsOwn side.old.known.view (opened_by (Some own)) }
     requires owes { OwesNothing side.old.known.view }
-    ensures trusts { Trusts Sits shape.now here.new side.new.known.view }
-    ensures stays { Stays here.old here.new }
+    ensures stays { StaysTrusted shape.now here.old here.new side.new.known.view }
     ensures told { IsTold shape.now side.new.known.view }
     ensures carries { HasCarriedOut side.old.known.view
         (own_of own.entry) side.new.known.view result }
@@ -133,8 +130,7 @@ fn carry_on_copy<R: Wait>(
     requires trusts { Trusts Sits shape.now here.old side.old.known.view }
     requires own { KnowsOwn side.old.known.view (opened_by (Some own)) }
     requires stands { Stands shape.now side.old.known.view (work_of machine.now) }
-    ensures trusts { Trusts Sits shape.now here.new side.new.known.view }
-    ensures stays { Stays here.old here.new }
+    ensures stays { StaysTrusted shape.now here.old here.new side.new.known.view }
     ensures told { IsTold shape.now side.new.known.view }
     ensures carries { HasCarriedOut side.old.known.view
         (own_of own.entry) side.new.known.view result }
@@ -157,8 +153,7 @@ fn carry_on<R: Wait>(
     requires trusts { Trusts Sits shape.now here.old side.old.known.view }
     requires own { KnowsOwn side.old.known.view (opened_by (Some own)) }
     requires stands { Stands shape.now side.old.known.view (work_of machine.old) }
-    ensures trusts { Trusts Sits shape.now here.new side.new.known.view }
-    ensures stays { Stays here.old here.new }
+    ensures stays { StaysTrusted shape.now here.old here.new side.new.known.view }
     ensures told { IsTold shape.now side.new.known.view }
     ensures carries { HasCarriedOut side.old.known.view
         (own_of own.entry) side.new.known.view result }

@@ -122,7 +122,7 @@ module _ (t : Table) (kind : Kind) (positions : ℕ) (cells keys : List ℕ) (c 
   }
     where
       run : RunInvariant (started kind t.shape cells (λ v. keys))
-      run = run_starts kind t.shape cells (λ v. keys) t.fits long
+      run = run_starts kind t.shape cells (λ v. keys) long
 
       unmarked : (h : Hand) → IsNew t.shape kind positions h → (p : ℕ) → p < length h.found.items → slice_index_or h.found.items p false ≡ false
       unmarked h n p inside = ap (λ (l : List Bool). slice_index_or l p false) n.unmarked ∙ get_or-replicate positions p false false (let e : length h.found.items ≡ positions = ap length n.unmarked ∙ length-replicate positions false in omega (arith, inside, e))

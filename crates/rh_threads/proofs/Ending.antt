@@ -42,7 +42,7 @@ at_or (x ∷ xs) (suc i) a d e = at_or xs i a d e
 value_back : (value : ℕ) → value_of (plain_number value) ≡ value
 value_back value = omega arith
 
-module _ (ph : Phase) (vs : List Sitter) (hs : List Hand) (values : List ℕ) (some_one : 0 < ph.shape.workers) (spans : Spans vs 0 ph.shape.workers) (long : length hs ≡ ph.shape.workers) (comes : Comes ph vs hs) (leaves : Leaves ph.shape vs values) (list : ph.shape.keys ≡ length ph.keys) (finished : All IsFinished hs) (hands : InPairs (λ v h. IsHand ph.shape ph.keys h v) vs hs) (layout : Layout ph.opening ph.shape.bits (keys_of ph.opening)) (room : LeavesRoom ph.kind ph.shape.bits (keys_of ph.opening) ph.keys) where
+module _ (ph : Phase) (vs : List Sitter) (hs : List Hand) (values : List ℕ) (spans : Spans vs 0 ph.shape.workers) (long : length hs ≡ ph.shape.workers) (comes : Comes ph vs hs) (leaves : Leaves ph.shape vs values) (list : ph.shape.keys ≡ length ph.keys) (finished : All IsFinished hs) (hands : InPairs (λ v h. IsHand ph.shape ph.keys h v) vs hs) (layout : Layout ph.opening ph.shape.bits (keys_of ph.opening)) (room : LeavesRoom ph.kind ph.shape.bits (keys_of ph.opening) ph.keys) where
   abbrev m : AreMade ph.shape vs
   m = leaves.made
 
@@ -50,7 +50,7 @@ module _ (ph : Phase) (vs : List Sitter) (hs : List Hand) (values : List ℕ) (s
   S = first_set ph
 
   ga : Gathered ph m.words m.keep hs
-  ga = gathered ph vs hs some_one spans long comes m
+  ga = gathered ph vs hs spans long comes m
 
   abbrev done : ℕ → List ℕ
   done v = keys_done ph.keys (ga.answers v)
@@ -79,7 +79,7 @@ module _ (ph : Phase) (vs : List Sitter) (hs : List Hand) (values : List ℕ) (s
   run = run_of ph m.words m.keep done told
 
   ends : FinalSpec run S ph.keys
-  ends = run_shared_ends run S ph.keys ga.run m.rest layout some_one (sym list) found_end all_done room
+  ends = run_shared_ends run S ph.keys ga.run m.rest layout (sym list) found_end all_done room
 
   cells_are : cells_held ph.shape m.words ≡ values
   cells_are = sym (fill_by_all (λ c. value_of (slice_index m.words c)) values (cell_count ph.shape) 0 size (λ c inside.
@@ -131,7 +131,7 @@ module _ (ph : Phase) (vs : List Sitter) (hs : List Hand) (values : List ℕ) (s
 
         back : contains S (slice_index ph.keys p) ≡ true → is_marked hs p ≡ true
         back is =
-            let shared : IsSharedOut ph.shape.keys (all_claimed ph.shape m.keep) = shared_out m.w ph.shape m.words m.keep m.core some_one found_end in
+            let shared : IsSharedOut ph.shape.keys (all_claimed ph.shape m.keep) = shared_out m.w ph.shape m.words m.keep m.core found_end in
             let one = shared.all p (omega (arith, inside, list)) in
             let size = claims_size m.w ph.shape m.words m.keep m.core in
             let less : one.0 < ph.shape.workers = let l = one.1 in omega (arith, l, size) in

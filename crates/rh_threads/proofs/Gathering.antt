@@ -6,7 +6,6 @@ use Rattle.rh_ledger.specs.declared.tally.Kind.{Kind}
 use Rattle.rh_world.specs.World.{updated}
 use Rattle.rh_world.proofs.Updated.{same_nat, updated_else, updated_here}
 use Rattle.rh_rule.specs.declared.rule.Sitter.{Sitter}
-use Rattle.rh_words.specs.Parts.{IsShape}
 use Rattle.rh_words.specs.View.{View, round_view}
 use Rattle.rh_rule.specs.Seats.{AreMade, Spans, all_views, sitter}
 use Rattle.rh_rule.proofs.SeatsKept.{item_at, of_map, there}
@@ -46,7 +45,7 @@ pub record Gathered (ph : Phase) (words : List ℕ) (keep : ℕ → View) (hs : 
   pub run : RunInvariant (run_of ph words keep (λ v. keys_done ph.keys (answers v)) (λ v. told_of (answers v)))
   pub each : (v : ℕ) → v < ph.shape.workers → AnsweredBy ph keep hs v (answers v)
 
-module _ (ph : Phase) (vs : List Sitter) (hs : List Hand) (some_one : 0 < ph.shape.workers) (spans : Spans vs 0 ph.shape.workers) (long : length hs ≡ ph.shape.workers) (comes : Comes ph vs hs) (m : AreMade ph.shape vs) where
+module _ (ph : Phase) (vs : List Sitter) (hs : List Hand) (spans : Spans vs 0 ph.shape.workers) (long : length hs ≡ ph.shape.workers) (comes : Comes ph vs hs) (m : AreMade ph.shape vs) where
   abbrev past : ℕ → Past
   past = past_of ph.positions comes.run
 
@@ -77,8 +76,8 @@ module _ (ph : Phase) (vs : List Sitter) (hs : List Hand) (some_one : 0 < ph.sha
   pub gathered : Gathered ph m.words m.keep hs
   gathered = record {
     answers = chosen.0;
-    run = run_gathers (run_of ph comes.words comes.keep comes.done comes.told) comes.run m.words m.keep (λ v. keys_done ph.keys (chosen.0 v)) (λ v. told_of (chosen.0 v)) m.w 0 m.core some_one
-        (chosen.1 0 some_one).stands.opening (λ v less. doing_at v (chosen.0 v) (chosen.1 v less));
+    run = run_gathers (run_of ph comes.words comes.keep comes.done comes.told) comes.run m.words m.keep (λ v. keys_done ph.keys (chosen.0 v)) (λ v. told_of (chosen.0 v)) m.w 0 m.core ph.shape.some_worker
+        (chosen.1 0 ph.shape.some_worker).stands.opening (λ v less. doing_at v (chosen.0 v) (chosen.1 v less));
     each = λ v less. let is = chosen.1 v less in record {
       hand = is.hand;
       at = is.at;
@@ -89,8 +88,8 @@ module _ (ph : Phase) (vs : List Sitter) (hs : List Hand) (some_one : 0 < ph.sha
   }
 
   -- the next round begins where they are
-  pub comes_on : IsShape ph.shape → (us : List Sitter) → us ≡ all_views (round_view m.cells) vs → Comes ph us hs
-  comes_on shape us is = record {
+  pub comes_on : (us : List Sitter) → us ≡ all_views (round_view m.cells) vs → Comes ph us hs
+  comes_on us is = record {
     words = then;
     keep = λ v. round_view m.cells (m.keep v);
     done = λ v. keys_done ph.keys (gathered.answers v);
@@ -123,4 +122,4 @@ module _ (ph : Phase) (vs : List Sitter) (hs : List Hand) (some_one : 0 < ph.sha
       then = wiped.0
 
       run : RunInvariant (run_of ph then (λ v. round_view m.cells (m.keep v)) (λ v. keys_done ph.keys (gathered.answers v)) (λ v. told_of (gathered.answers v)))
-      run = run_rounds (run_of ph m.words m.keep (λ v. keys_done ph.keys (gathered.answers v)) (λ v. told_of (gathered.answers v))) then m.cells shape some_one m.rest m.front wiped.1 gathered.run
+      run = run_rounds (run_of ph m.words m.keep (λ v. keys_done ph.keys (gathered.answers v)) (λ v. told_of (gathered.answers v))) then m.cells m.rest m.front wiped.1 gathered.run

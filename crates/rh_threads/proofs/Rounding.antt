@@ -1,5 +1,5 @@
 -- One round after the other.
-use Rattle.std.proofs.Common.{◌≡◌, ℕ, ◌<◌, List, sym, ◌∙◌, subst, arith, []}
+use Rattle.std.proofs.Common.{◌≡◌, ℕ, List, sym, ◌∙◌, subst, arith, []}
 use mathlib.Core.Option.{some}
 use lib.ListN.{get_elem?}
 use Rattle.rh_ledger.specs.declared.tally.Kind.{Kind}
@@ -23,9 +23,6 @@ all_at t s all = record { own = all.own; within = let f = all.first in let c = a
 
 pub all_spans : (t : Table) (s : Seat) → HasAll t s → Spans (views_of s) 0 t.shape.workers
 all_spans t s all = subst (λ (first : ℕ). Spans (views_of s) first t.shape.workers) all.first (subst (Spans (views_of s) s.side.worker) all.count s.spans)
-
-pub all_some : (t : Table) (s : Seat) → HasAll t s → 0 < t.shape.workers
-all_some t s all = subst (λ (n : ℕ). 0 < n) all.count s.some
 
 module _ (t : Table) (keys : List ℕ) (c then : Crew) (all : HasAll t c.seat) (worked : HaveWorked t keys c then) where
   pub worked_all : HasAll t then.seat
@@ -56,5 +53,5 @@ module _ (t : Table) (keys : List ℕ) (c then : Crew) (all : HasAll t c.seat) (
     }
 
     pub wiped_comes : (kind : Kind) (opening : List ℕ) (positions : ℕ) → Comes (phase t.shape kind opening keys positions) (views_of c.seat) c.hands → Comes (phase t.shape kind opening keys positions) (views_of seat) then.hands
-    wiped_comes kind opening positions was = comes_on (phase t.shape kind opening keys positions) (views_of then.seat) then.hands (all_some t then.seat worked_all) (all_spans t then.seat worked_all) (worked.crew.long ∙ worked_all.count)
-        (worked_comes kind opening positions was) wiped.made t.fits (views_of seat) wiped.views
+    wiped_comes kind opening positions was = comes_on (phase t.shape kind opening keys positions) (views_of then.seat) then.hands (all_spans t then.seat worked_all) (worked.crew.long ∙ worked_all.count)
+        (worked_comes kind opening positions was) wiped.made (views_of seat) wiped.views

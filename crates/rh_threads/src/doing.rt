@@ -1,14 +1,14 @@
 //! The keys of one worker, each to its end.
 
-ghost use Rattle.std.specs.Prelude.{◌≡◌, ◌<◌, All, IfNone, IfSome, IsFalse, IsTrue, false, length, slice_index, true};
+ghost use Rattle.std.specs.Prelude.{◌≡◌, ◌<◌, All, IfNone, IfSome, IsFalse, IsTrue, false, length, true};
 ghost use Rattle.rh_layout.specs.Key.{IsKey};
 ghost use Rattle.rh_run.specs.History.{own_acts_of};
-ghost use Rattle.rh_shared.specs.Rests.{SeatRests};
+ghost use Rattle.rh_shared.specs.Rests.{SeatRests, StaysAtRest};
 ghost use Rattle.rh_ledger.specs.declared.tally.Kind.{Kind};
 ghost use Rattle.rh_threads.specs.Buffer.{HasBufferRoom};
 ghost use Rattle.rh_threads.specs.Hands.{HasStopped, IsFinished, IsHand, Past, HandStands};
 ghost use Rattle.rh_threads.specs.Keys.{Furthers, IsTriedSo, KeySpec};
-ghost use Rattle.rh_shared.specs.Seats.{IsSame, view_of};
+ghost use Rattle.rh_shared.specs.Seats.{view_of};
 ghost use Rattle.rh_worker.specs.Worker.{HasNoRoom};
 
 use crate::buffer::Buffer;
@@ -32,8 +32,7 @@ pub(crate) fn do_keys<R: Wait, G: Gate>(
     requires rests { SeatRests table.now seat.old }
     requires hand { IsHand table.now.shape keys.now hand.old (view_of seat.old) }
     requires keys { (table.now.shape.keys ≡ length keys.now) × All IsKey keys.now }
-    ensures rests { SeatRests table.now seat.new }
-    ensures same { IsSame seat.old seat.new }
+    ensures stays { StaysAtRest table.now seat.old seat.new }
     ensures hand { IsHand table.now.shape keys.now hand.new (view_of seat.new) }
     ensures stopped { HasStopped table.now.shape hand.new (view_of seat.new) }
     ensures stands { (past : Past) →
@@ -69,8 +68,7 @@ fn next_key<G: Gate>(
     requires rests { SeatRests table.now seat.old }
     requires hand { IsHand table.now.shape keys.now hand.old (view_of seat.old) }
     requires keys { table.now.shape.keys ≡ length keys.now }
-    ensures rests { SeatRests table.now seat.new }
-    ensures same { IsSame seat.old seat.new }
+    ensures stays { StaysAtRest table.now seat.old seat.new }
     ensures hand { IsHand table.now.shape keys.now hand.new (view_of seat.new) }
     ensures has_key { IsTrue result → hand.new.has_key ≡ true }
     ensures finished { IsFalse result → IsFinished hand.new }
@@ -106,8 +104,7 @@ fn do_in_buffer<R: Wait>(
     requires rests { SeatRests table.now seat.old }
     requires key { IsKey key }
     requires room { HasBufferRoom table.now.shape.bits buffer.old }
-    ensures rests { SeatRests table.now seat.new }
-    ensures same { IsSame seat.old seat.new }
+    ensures stays { StaysAtRest table.now seat.old seat.new }
     ensures room { HasBufferRoom table.now.shape.bits buffer.new }
     ensures claims { (view_of seat.new).side.claims ≡ (view_of seat.old).side.claims }
     ensures opening { (view_of seat.new).opening ≡ (view_of seat.old).opening }
@@ -141,8 +138,7 @@ fn try_in_buffer<R: Wait>(
     requires rests { SeatRests table.now seat.old }
     requires key { IsKey key }
     requires room { HasBufferRoom table.now.shape.bits buffer.old }
-    ensures rests { SeatRests table.now seat.new }
-    ensures same { IsSame seat.old seat.new }
+    ensures stays { StaysAtRest table.now seat.old seat.new }
     ensures room { HasBufferRoom table.now.shape.bits buffer.new }
     ensures used { length buffer.new.seen.items ≡ length buffer.old.seen.items }
     ensures tries { IsTriedSo table.now.shape kind key (length buffer.old.seen.items)

@@ -1,7 +1,6 @@
 //! The hands of all workers: as a phase begins, and what they say at its end.
 
 ghost use Rattle.std.specs.Prelude.{◌≡◌, ℕ, ◌-◌, ◌^◌, ◌<◌, ◌||◌, false, min, IfOk, length, slice_index_or};
-ghost use Rattle.rh_words.specs.Parts.{IsShape};
 ghost use Rattle.rh_threads.specs.Made.{AreNew, IsNew};
 ghost use Rattle.rh_threads.specs.Rounds.{all_changed, is_marked};
 
@@ -19,7 +18,6 @@ pub(crate) fn new_hands(
     kind: Kind,
     positions: usize,
 ) -> Result<LinkedList<Hand>, AllocError>
-    requires { IsShape shape.now }
     ensures { IfOk result (AreNew shape.now kind positions) }
 {
     let mut hands = LinkedList::new(alloc);
@@ -31,7 +29,6 @@ pub(crate) fn new_hands(
 }
 
 fn new_hand(alloc: Global, shape: &Shape, kind: Kind, positions: usize) -> Result<Hand, AllocError>
-    requires { IsShape shape.now }
     ensures { IfOk result (IsNew shape.now kind positions) }
 {
     Ok(Hand {

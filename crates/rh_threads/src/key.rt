@@ -2,10 +2,10 @@
 
 ghost use Rattle.std.specs.Prelude.{◌≡◌, ◌↔◌, ◌^◌, ◌<◌, ◌≤◌, length, false};
 ghost use Rattle.rh_layout.specs.Key.{IsBits, IsKey};
-ghost use Rattle.rh_shared.specs.Rests.{SeatRests};
+ghost use Rattle.rh_shared.specs.Rests.{SeatRests, StaysAtRest};
 ghost use Rattle.rh_threads.specs.Keys.{IsTriedSo, IsUndone, ScanSpec};
 ghost use Rattle.rh_threads.specs.Scanning.{IsPassed};
-ghost use Rattle.rh_shared.specs.Seats.{IsSame, view_of};
+ghost use Rattle.rh_shared.specs.Seats.{view_of};
 
 use rh_layout::{Entry, beats, home, key_in};
 use rh_ledger::Kind;
@@ -47,8 +47,7 @@ pub fn try_key<R: Wait>(
     requires room { length seen.old ≤ 2 ^ bits }
     requires news { length news.old ≡ length seen.old }
     requires entries { length entries.old ≡ length seen.old }
-    ensures rests { SeatRests table.now seat.new }
-    ensures same { IsSame seat.old seat.new }
+    ensures stays { StaysAtRest table.now seat.old seat.new }
     ensures tries { IsTriedSo table.now.shape kind key (length seen.old) (view_of seat.old)
         (view_of seat.new) result }
 {
@@ -96,8 +95,7 @@ fn scan<R: Wait>(
     requires room { length seen.old ≤ 2 ^ bits }
     requires news { length news.old ≡ length seen.old }
     requires entries { length entries.old ≡ length seen.old }
-    ensures rests { SeatRests table.now seat.new }
-    ensures same { IsSame seat.old seat.new }
+    ensures stays { StaysAtRest table.now seat.old seat.new }
     ensures undone { IsUndone table.now.shape kind key (view_of seat.old) (view_of seat.new) }
     ensures unopened { (view_of seat.new).next_number ≡ (view_of seat.old).next_number }
     ensures scans { ScanSpec table.now.shape kind key (length seen.old) (view_of seat.old)

@@ -1,14 +1,14 @@
 //! What the workers of a phase work out at a table of their own, and why they did not.
 
-ghost use Rattle.std.specs.Prelude.{◌≡◌, ◌≢◌, ◌+◌, ◌^◌, ◌<◌, All, IfErr, IfOk, OnErr, OnOk, length};
+ghost use Rattle.std.specs.Prelude.{◌≡◌, ◌≢◌, ◌+◌, ◌^◌, ◌≤◌, ◌<◌, All, IfErr, IfOk, OnErr, OnOk, length};
 ghost use Rattle.std.specs.FinSet as set;
-ghost use Rattle.rh_layout.specs.Key.{IsKey};
+ghost use Rattle.rh_layout.specs.Key.{IsBits, IsKey};
 ghost use Rattle.rh_layout.specs.Layout.{IsLayout, keys_of};
 ghost use Rattle.rh_ledger.specs.Phase.{looked_up, most_added};
-ghost use Rattle.rh_words.specs.Parts.{IsShape};
 ghost use Rattle.rh_threads.specs.Crew.{AllMayStart, IsFault};
-ghost use Rattle.rh_threads.specs.Made.{HasChanged, IsWorkedOut};
+ghost use Rattle.rh_threads.specs.Made.{HasChanged, IsWorkedOut, IsWorkers};
 ghost use Rattle.rh_threads.specs.Rounds.{phase};
+ghost use Rattle.rh_words.specs.declared.limits.TheConstants.{MAX_ROOM};
 
 use crate::crew::{Crew, Starts};
 use crate::fault::Fault;
@@ -24,6 +24,9 @@ use std::thread::Threads;
 
 /// The shape of a table for so many workers that share this list.
 pub fn shape_of(bits: u32, workers: usize, rooms: Rooms, keys: &[u64]) -> Shape
+    requires bits { IsBits bits }
+    requires workers { IsWorkers workers }
+    requires rooms { (rooms.descriptors ≤ MAX_ROOM) × (rooms.marks ≤ MAX_ROOM) }
     ensures bits { result.bits ≡ bits }
     ensures workers { result.workers ≡ workers }
     ensures rooms { result.rooms ≡ rooms }
@@ -48,8 +51,6 @@ pub fn changed<R: Threads + Wait + Sync, G: Gate + Sync, S: Starts + Sync>(
     gate: &G,
     starts: &S,
 ) -> Result<Tally, Fault>
-    requires shape { IsShape shape }
-    requires some { 0 < shape.workers }
     requires list { shape.keys ≡ length keys.now }
     requires kind { kind ≢ Kind.Ask }
     requires keys { All IsKey keys.now }
@@ -77,8 +78,6 @@ pub fn asked<R: Threads + Wait + Sync, G: Gate + Sync, S: Starts + Sync>(
     gate: &G,
     starts: &S,
 ) -> Result<Vec<bool>, Fault>
-    requires shape { IsShape shape }
-    requires some { 0 < shape.workers }
     requires list { shape.keys ≡ length keys.now }
     requires keys { All IsKey keys.now }
     requires layout { IsLayout shape.bits cells.now }
@@ -120,8 +119,6 @@ fn work_out<R: Threads + Wait + Sync, G: Gate + Sync, S: Starts + Sync>(
     gate: &G,
     starts: &S,
 ) -> Result<(Table, Crew), Fault>
-    requires shape { IsShape shape }
-    requires some { 0 < shape.workers }
     requires list { shape.keys ≡ length keys.now }
     requires keys { All IsKey keys.now }
     requires layout { IsLayout shape.bits cells.now }

@@ -177,7 +177,7 @@ module _ (g : Game) (plays : Plays g) (finished : AllFinished g) where
 
     ends_pieces : EndsWith g
     ends_pieces = record {
-      now = held_now (run_of g plays.told) plays.running rest plays.shape;
+      now = held_now (run_of g plays.told) plays.running rest;
       layout = subst (λ (l : List ℕ). Layout (cells_held z g.words) z.bits (set_after g.kind S l)) joined_is by_pieces.layout;
       tally = tally_is by_pieces ∙ ap (tally_of g.kind S) joined_is;
       answers = answers_pieces;
@@ -205,13 +205,13 @@ module _ (g : Game) (plays : Plays g) (finished : AllFinished g) where
 
     by_claims : FinalSpec (run_of g plays.told) S g.keys
     by_claims = run_shared_ends (run_of g plays.told) S g.keys plays.running rest plays.opening
-        plays.some (sym (of_claims 0 plays.some).3) found all_claimed_done plays.room
+        (sym (of_claims 0 g.shape.some_worker).3) found all_claimed_done plays.room
 
     answers_claims : g.kind ≡ Ask → (p : ℕ) → p < length g.keys → slice_index_or g.answers p None ≡ Some (slice_index_or (looked_up S g.keys) p false)
     answers_claims asks p inside =
         let run = plays.running in
-        let all = shared_out run.world z g.words (keep g) run.core plays.some found in
-        let long : z.keys ≡ length g.keys = (of_claims 0 plays.some).3 in
+        let all = shared_out run.world z g.words (keep g) run.core found in
+        let long : z.keys ≡ length g.keys = (of_claims 0 g.shape.some_worker).3 in
         let one = all.all p (omega (arith, inside, long)) in
         let v : ℕ = one.0 in
         let mine : v < z.workers = omega (arith, one.1, claims_size run.world z g.words (keep g) run.core) in
@@ -223,7 +223,7 @@ module _ (g : Game) (plays : Plays g) (finished : AllFinished g) where
 
     ends_claims : EndsWith g
     ends_claims = record {
-      now = held_now (run_of g plays.told) plays.running rest plays.shape;
+      now = held_now (run_of g plays.told) plays.running rest;
       layout = by_claims.layout;
       tally = tally_is by_claims;
       answers = answers_claims;

@@ -140,7 +140,7 @@ module _ (g : Game) (plays : Plays g) where
   in_hands v mine = omega (arith, mine, plays.workers)
 
   pub some_hand : Hand
-  some_hand = first_of_all g.hands (in_hands 0 plays.some)
+  some_hand = first_of_all g.hands (in_hands 0 g.shape.some_worker)
 
   pub hand_of : (v : ℕ) → v < z.workers → (d : Hand) → IsHand z g.kind g.keys (get_or g.hands v d)
   hand_of v mine d = plays.hands v d (in_hands v mine)
@@ -170,7 +170,7 @@ module _ (g : Game) (plays : Plays g) where
 
   -- each worker may take a turn
   pub plays_relies : (v : ℕ) → v < z.workers → (d : Hand) → Relies Shows Serves z g.words (view_of (get_or g.hands v d))
-  plays_relies v mine d = subst (Relies Shows Serves z g.words) (kept_at v mine d) (workers_may_rely plays.running.world z g.words (keep g) v plays.shape plays.running.core mine)
+  plays_relies v mine d = subst (Relies Shows Serves z g.words) (kept_at v mine d) (workers_may_rely plays.running.world z g.words (keep g) v plays.running.core mine)
 
   pub plays_done : (v : ℕ) → v < z.workers → (d : Hand) → (get_or g.hands v d).done ≤ length g.keys
   plays_done v mine d =
@@ -192,8 +192,8 @@ module _ (g : Game) (plays : Plays g) where
   plays_readable c inside =
       let run = plays.running in
       record {
-        reads = words_lead_inside run.world z g.words (keep g) c plays.shape run.core inside;
-        value = λ word stands. subst IsPlain (sym (logical_words run.world z g.words (keep g) c word plays.shape run.core inside stands)) (cells_plain run.world z g.words (keep g) run.core c inside);
+        reads = words_lead_inside run.world z g.words (keep g) c run.core inside;
+        value = λ word stands. subst IsPlain (sym (logical_words run.world z g.words (keep g) c word run.core inside stands)) (cells_plain run.world z g.words (keep g) run.core c inside);
       }
 
   pub keys_among : (v k : ℕ) → v < z.workers → Contains (keys_at g v) k → Contains g.keys k
@@ -204,4 +204,4 @@ module _ (g : Game) (plays : Plays g) where
 
   -- at each moment the cells stand for the layout of the set after some of the keys
   pub plays_moment : MomentSpec (run_of g plays.told) (keys_of g.opening) plays.running.before (history plays.running.world)
-  plays_moment = run_moment (run_of g plays.told) (keys_of g.opening) g.keys plays.running plays.shape plays.opening keys_among plays.room
+  plays_moment = run_moment (run_of g plays.told) (keys_of g.opening) g.keys plays.running plays.opening keys_among plays.room

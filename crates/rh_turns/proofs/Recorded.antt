@@ -23,7 +23,7 @@ abbrev pub made : Shape → Step → Recorder → View → ℕ → Recorder → 
 made z s t v word then next = Records then.last z s t.words.items v word then.words.items next
 
 pub relies_so : (z : Shape) (t : Recorder) (v : View) → Relies Shows Serves z t.words.items v → Relies shows serves z t v
-relies_so z t v r = record { now = record { shape = r.now.shape; knows = r.now.knows; rows = r.now.rows }; may = r.may }
+relies_so z t v r = record { now = record { knows = r.now.knows; rows = r.now.rows }; may = r.may }
 
 pub makes_so : (z : Shape) (k : StepKind) (t : Recorder) (v : View) (then : Recorder) (next : View) → MakesStep shows made z k t v then next
     → MakesStep Shows (Records then.last) z k t.words.items v then.words.items next
@@ -34,7 +34,7 @@ makes_so z k t v then next m = record {
   allowed = m.allowed;
   view_is = m.view_is;
   steps = m.steps;
-  trusts = record { shape = m.trusts.shape; knows = m.trusts.knows; rows = m.trusts.rows };
+  trusts = record { knows = m.trusts.knows; rows = m.trusts.rows };
   claims = m.claims;
   reads = m.reads;
 }

@@ -138,7 +138,7 @@ module _ (g : Game) (plays : Plays g) (stopped : AllStopped g) (then cells : Lis
 
   running : RunInvariant (run_of game plays.told)
   running = runs_alike after (keep game) (keys_at game) (done_at game) plays.told alike
-      (run_rounds (run_of g plays.told) then cells plays.shape plays.some (plays_stopped g plays stopped) same wiped plays.running)
+      (run_rounds (run_of g plays.told) then cells (plays_stopped g plays stopped) same wiped plays.running)
 
   share_same : (v : ℕ) (e : Hand) → v < length g.hands → (get_or hands v e).share ≡ (get_or g.hands v e).share
   share_same v e l = (begins v e l).share
@@ -151,8 +151,6 @@ module _ (g : Game) (plays : Plays g) (stopped : AllStopped g) (then cells : Lis
 
   pub plays_round : Plays game
   plays_round = record {
-    shape = plays.shape;
-    some = plays.some;
     workers = size ∙ plays.workers;
     opening = plays.opening;
     room = plays.room;

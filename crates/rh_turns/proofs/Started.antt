@@ -43,7 +43,7 @@ module _ (g : Game) (starts : GameStarts g) where
   inside v mine = omega (arith, mine, starts.workers)
 
   d : Hand
-  d = first_of_all g.hands (inside 0 starts.some)
+  d = first_of_all g.hands (inside 0 g.shape.some_worker)
 
   at_v : {A : Type 0} (f : Hand → A) (default : A) (v : ℕ) → v < z.workers → at_hand f default g.hands v ≡ f (get_or g.hands v d)
   at_v f default v mine = at_hand_is f default g.hands v d (inside v mine)
@@ -102,7 +102,7 @@ module _ (g : Game) (starts : GameStarts g) where
 
   running : RunInvariant (run_of g (λ v. []))
   running = subst (λ (l : List ℕ). RunInvariant (record (run_of g (λ v. [])) { words = l })) (sym starts.words)
-      (runs_alike first (keep g) (keys_at g) (done_at g) (λ v. []) alike (run_starts g.kind z g.opening (keys_at g) starts.shape starts.opening.size))
+      (runs_alike first (keep g) (keys_at g) (done_at g) (λ v. []) alike (run_starts g.kind z g.opening (keys_at g) starts.opening.size))
 
   dealt : IsDealt g
   dealt = ⊎_elim (λ (are : ArePieces 0 (shares_of g.hands) (length g.keys)). inl are)
@@ -110,8 +110,6 @@ module _ (g : Game) (starts : GameStarts g) where
 
   pub plays_start : Plays g
   plays_start = record {
-    shape = starts.shape;
-    some = starts.some;
     workers = starts.workers;
     opening = starts.opening;
     room = starts.room;

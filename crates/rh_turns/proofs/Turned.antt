@@ -304,8 +304,6 @@ module _ (g : Game) (plays : Plays g) (who : ℕ) (mine : who < g.shape.workers)
 
       plays_then : Fits answer → answers ≡ answered g.answers (position_now h) answer → Plays game
       plays_then fits is_now = record {
-        shape = plays.shape;
-        some = plays.some;
         workers = size_then;
         opening = plays.opening;
         room = plays.room;
@@ -331,7 +329,7 @@ module _ (g : Game) (plays : Plays g) (who : ℕ) (mine : who < g.shape.workers)
       let kept : view_of h ≡ keep g who = sym (kept_at g plays who mine d) in
       let positions_are : positions z next ≡ also_at (positions z h) (position_now h) s.done = positions_then z g.keys h next s.makes.claims s.done s.share was.share hand.share s.counts in
       let done : also_done (done_at g who) key s.done ≡ done_keys z g.keys next = ap (λ (l : List ℕ). also_done l key s.done) (at_who (done_keys z g.keys) []) ∙ keys_then z g.keys h next s.done positions_are in
-      let run = run_steps (run_of g plays.told) who s.makes.step s.makes.word then (view_of next) key s.done plays.shape mine
+      let run = run_steps (run_of g plays.told) who s.makes.step s.makes.word then (view_of next) key s.done mine
       (subst (λ (x : View). Allowed z x s.makes.step) kept s.makes.allowed)
       (subst (λ (x : View). StepsTo z s.makes.step g.words x s.makes.word then (view_of next)) kept s.makes.steps)
       (subst (λ (l : List ℕ). Contains l key) (sym (at_who (keys_for g.keys) [])) (next_among g.keys h.share h.done s.next_key s.within))
@@ -356,7 +354,7 @@ module _ (g : Game) (plays : Plays g) (who : ℕ) (mine : who < g.shape.workers)
       let positions_are : positions z next ≡ positions z h =
       ap (λ (s : Share). positions_of z s (view_of next) next.done) share_then ∙ ap (λ (n : ℕ). take n (claimed z (view_of next))) c.counts.0
       ∙ first_stay z (view_of h) (view_of next) c.word (ap (λ (x : View). x.side.claims) c.steps.view_is) h.done most ∙ sym (ap (λ (s : Share). positions_of z s (view_of h) h.done) share) in
-      let run = run_claims (run_of g plays.told) who c.word then (view_of next) plays.shape mine
+      let run = run_claims (run_of g plays.told) who c.word then (view_of next) mine
       (subst (λ (x : View). Allowed z x Step.claims) kept c.allowed)
       (subst (λ (x : View). StepsTo z Step.claims g.words x c.word then (view_of next)) kept c.steps) plays.running in
       let done : done_at g who ≡ done_keys z g.keys next = at_who (done_keys z g.keys) [] ∙ sym (ap (map (slice_index g.keys)) positions_are) in

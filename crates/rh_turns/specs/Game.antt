@@ -4,7 +4,6 @@ use Rattle.rh_layout.specs.Key.{IsKey}
 use Rattle.rh_layout.specs.Layout.{IsLayout, keys_of}
 use Rattle.rh_ledger.specs.declared.tally.Kind.{Kind}
 use Rattle.rh_words.specs.declared.shape.Shape.{Shape}
-use Rattle.rh_words.specs.Parts.{IsShape}
 use Rattle.rh_words.specs.View.{View, new_view}
 use Rattle.rh_acts.specs.Workers.{LeavesRoom, how_many}
 use Rattle.rh_run.specs.Run.{Run, RunInvariant}
@@ -79,8 +78,6 @@ IsDealt g = ArePieces 0 (shares_of g.hands) (length g.keys) ⊎ All IsClaiming g
 -- ---- what is so of it between two calls
 
 pub record Plays (g : Game) : Type 0 where
-  pub shape : IsShape g.shape
-  pub some : 0 < g.shape.workers
   pub workers : length g.hands ≡ g.shape.workers
   pub opening : IsLayout g.shape.bits g.opening
   pub room : LeavesRoom g.kind g.shape.bits (keys_of g.opening) g.keys

@@ -8,7 +8,7 @@ use Rattle.rh_ledger.specs.declared.tally.Kind.TheVariants.{Ask}
 use Rattle.rh_ledger.specs.Phase.{looked_up, set_after, tally_of}
 use Rattle.rh_tagword.specs.Word.{plain_number}
 use Rattle.rh_words.specs.declared.shape.Shape.{Shape}
-use Rattle.rh_words.specs.Parts.{IsShape, cell_count}
+use Rattle.rh_words.specs.Parts.{cell_count}
 use Rattle.rh_words.specs.View.{round_view}
 use Rattle.rh_rule.specs.Rest.{AllRest}
 use Rattle.rh_rule.specs.Wipes.{row_total}
@@ -40,8 +40,6 @@ abbrev pub IsNewlyDealt : Game → Type 0
 IsNewlyDealt g = ArePieces 0 (shares_of g.hands) (length g.keys) ⊎ ((g.shape.keys ≡ length g.keys) × All WillClaim g.hands)
 
 pub record GameStarts (g : Game) : Type 0 where
-  pub shape : IsShape g.shape
-  pub some : 0 < g.shape.workers
   pub workers : length g.hands ≡ g.shape.workers
   pub opening : IsLayout g.shape.bits g.opening
   pub room : LeavesRoom g.kind g.shape.bits (keys_of g.opening) g.keys

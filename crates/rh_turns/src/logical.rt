@@ -1,7 +1,7 @@
 //! What a cell stands for.
 
 ghost use Rattle.std.specs.Prelude.{◌≡◌, ◌<◌, ◌≤◌, ℕ, Some, length};
-ghost use Rattle.rh_words.specs.Parts.{IsShape, cell_count, word_count};
+ghost use Rattle.rh_words.specs.Parts.{cell_count, word_count};
 ghost use Rattle.rh_words.specs.Words.{ref_of};
 ghost use Rattle.rh_words.specs.Steps.{IsDesc};
 ghost use Rattle.rh_rule.specs.Represents.{word_at};
@@ -20,7 +20,6 @@ use rh_words::{Part, Ref, Shape};
 /// the value of a descriptor's entry that counts (Harris, Fraser and Pratt 2002). Where the
 /// descriptor is stale it is the old value, known to the worker by whose doing it stands there.
 pub fn logical_value(shape: &Shape, words: &[u64], hands: &[Hand], cell: usize) -> u64
-    requires shape { IsShape shape.now }
     requires sized { length words.now ≡ word_count shape.now }
     requires workers { AreWorkers hands.now }
     requires count { length hands.now ≡ shape.now.workers }
@@ -32,7 +31,6 @@ pub fn logical_value(shape: &Shape, words: &[u64], hands: &[Hand], cell: usize) 
 }
 
 fn logical_word(shape: &Shape, words: &[u64], hands: &[Hand], cell: usize) -> u64
-    requires shape { IsShape shape.now }
     requires sized { length words.now ≡ word_count shape.now }
     requires workers { AreWorkers hands.now }
     requires count { length hands.now ≡ shape.now.workers }
@@ -65,7 +63,6 @@ fn marked_word(hands: &[Hand], mark: Ref) -> u64
 
 /// The value of the entry of a descriptor that is for this cell.
 fn described_word(shape: &Shape, words: &[u64], hands: &[Hand], desc: Ref, cell: usize) -> u64
-    requires shape { IsShape shape.now }
     requires sized { length words.now ≡ word_count shape.now }
     requires workers { AreWorkers hands.now }
     requires count { length hands.now ≡ shape.now.workers }
@@ -83,7 +80,6 @@ fn described_word(shape: &Shape, words: &[u64], hands: &[Hand], desc: Ref, cell:
 
 /// By its row: of the entry's two values the new one if it succeeded.
 fn word_in_row(shape: &Shape, words: &[u64], desc: Ref, cell: usize) -> u64
-    requires shape { IsShape shape.now }
     requires sized { length words.now ≡ word_count shape.now }
     requires desc { IsDesc shape.now (ref_of desc) }
     requires entries { word_at shape.now words.now

@@ -1,20 +1,10 @@
 -- Where each part of a shared table stands in its words.
-use Rattle.std.specs.Prelude.{ℕ, ◌+◌, ◌*◌, ◌^◌, ◌<◌, ◌≤◌}
-use Rattle.rh_layout.specs.Key.{IsBits}
-use Rattle.rh_words.specs.declared.limits.TheConstants.{MAX_WORKERS, MAX_ROOM, HEAD_WORDS, WORDS_PER_ENTRY, MARK_WORDS}
+use Rattle.std.specs.Prelude.{ℕ, ◌+◌, ◌*◌, ◌^◌, ◌<◌}
+use Rattle.rh_words.specs.declared.limits.TheConstants.{MAX_ROOM, HEAD_WORDS, WORDS_PER_ENTRY, MARK_WORDS}
 use Rattle.rh_words.specs.declared.shape.Rooms.{Rooms}
 use Rattle.rh_words.specs.declared.shape.Shape.{Shape}
 use Rattle.rh_words.specs.declared.shape.Part.{Part}
 use Rattle.rh_words.specs.declared.shape.Part.TheVariants.{Cell, Control, Serial, Length, EntryCell, EntryOld, EntryNew, MarkSerial, MarkDesc, MarkEntry, Reason, Counter}
-
--- the sizes that a table may have
-pub record IsShape (z : Shape) : Type 0 where
-  pub bits : IsBits z.bits
-  pub workers : z.workers ≤ MAX_WORKERS
-  pub descriptors : z.rooms.descriptors ≤ MAX_ROOM
-  pub marks : z.rooms.marks ≤ MAX_ROOM
-  -- so that the counter does not pass a word
-  pub keys : z.keys < 2 ^ 63
 
 -- the greatest rooms
 abbrev pub usual_rooms : Rooms

@@ -1,7 +1,7 @@
 //! References to marks and descriptors.
 
 ghost use Rattle.std.specs.Prelude.{◌≡◌, ◌<◌};
-ghost use Rattle.rh_words.specs.Parts.{IsShape, word_count};
+ghost use Rattle.rh_words.specs.Parts.{word_count};
 ghost use Rattle.rh_words.specs.Steps.{IsRead, index_read};
 
 use crate::shape::Shape;
@@ -59,8 +59,7 @@ impl Reading {
     // The word of the table that is read.
     #[inline(always)]
     pub(crate) fn index(self, shape: &Shape) -> usize
-        requires shape { IsShape shape.now }
-        requires reading { IsRead shape.now self }
+        requires { IsRead shape.now self }
         ensures value { result ≡ index_read shape.now self }
         ensures within { result < word_count shape.now }
     {

@@ -1,6 +1,8 @@
 //! The shape of a shared table, and where its parts stand in its words.
 
-ghost use Rattle.std.specs.Prelude.{◌≡◌, ◌<◌};
+ghost use Rattle.std.specs.Prelude.{◌≡◌, ◌^◌, ◌≤◌, ◌<◌};
+ghost use Rattle.rh_layout.specs.Key.{IsBits};
+ghost use Rattle.rh_words.specs.declared.limits.TheConstants.{MAX_ROOM, MAX_WORKERS};
 
 use crate::limits::{HEAD_WORDS, MARK_WORDS, MAX_ROOM, WORDS_PER_ENTRY};
 
@@ -26,15 +28,22 @@ impl Rooms {
     }
 }
 
-/// How large a shared table is.
+/// How large a shared table is: each shape has sizes that a table may have.
 #[derive(Clone, Copy, Debug, PartialEq, Eq)]
 pub struct Shape {
     /// It has 2 to the power of its bits cells.
     pub bits: u32,
     pub workers: usize,
-    /// The length of the list of keys whose places the workers claim.
+    /// The length of the list of keys whose places the workers claim. The counter of the claims
+    /// does not pass a word.
     pub keys: u64,
     pub rooms: Rooms,
+    pub ghost bits_fit: { IsBits bits },
+    pub ghost some_worker: { 0 < workers },
+    pub ghost workers_fit: { workers ≤ MAX_WORKERS },
+    pub ghost keys_fit: { keys < 2 ^ 63 },
+    pub ghost descriptors_fit: { rooms.descriptors ≤ MAX_ROOM },
+    pub ghost marks_fit: { rooms.marks ≤ MAX_ROOM },
 }
 
 /// A part of a shared table: one word. Workers and entries are counted from 0.
@@ -67,14 +76,13 @@ pub enum Part {
 
 impl Shape {
     ghost use Rattle.rh_words.specs.declared.limits.TheConstants.{HEAD_WORDS, MARK_WORDS, WORDS_PER_ENTRY};
-    ghost use Rattle.rh_words.specs.Parts.{IsPart, IsShape, cell_count, entry_words, index_of};
+    ghost use Rattle.rh_words.specs.Parts.{IsPart, cell_count, entry_words, index_of};
     ghost use Rattle.rh_words.specs.Parts.{entry_row, mark_row, reason_row, row_count, row_index, word_count};
     ghost use Rattle.rh_words.specs.declared.shape.Part.TheVariants.{Counter};
 
     /// How many cells there are.
     #[inline(always)]
     pub fn cells(&self) -> usize
-        requires { IsShape self.now }
         ensures { result ≡ cell_count self.now }
     {
         1 << self.bits
@@ -83,7 +91,6 @@ impl Shape {
     /// How many words the table has.
     #[inline(always)]
     pub fn words(&self) -> usize
-        requires { IsShape self.now }
         ensures { result ≡ word_count self.now }
     {
         self.cells() + self.workers * self.rows() + 1
@@ -92,7 +99,6 @@ impl Shape {
     // How many words the entries of a row have: a descriptor has at most one for each cell.
     #[inline(always)]
     fn entry_words(&self) -> usize
-        requires { IsShape self.now }
         ensures { result ≡ entry_words self.now }
     {
         WORDS_PER_ENTRY * self.cells()
@@ -101,7 +107,6 @@ impl Shape {
     // How many words the rows of one worker have.
     #[inline(always)]
     fn rows(&self) -> usize
-        requires { IsShape self.now }
         ensures { result ≡ row_count self.now }
     {
         HEAD_WORDS + self.entry_words() + MARK_WORDS + self.workers
@@ -110,8 +115,7 @@ impl Shape {
     /// The word of a part.
     #[inline(always)]
     pub fn index(&self, part: Part) -> usize
-        requires shape { IsShape self.now }
-        requires part { IsPart self.now part }
+        requires { IsPart self.now part }
         ensures value { result ≡ index_of self.now part }
         ensures within { result < word_count self.now }
     {
@@ -134,7 +138,6 @@ impl Shape {
     #[tactic(auto, using(crate::proofs::IndexLemmas::entry_inside))]
     #[inline(always)]
     pub(crate) fn entry_word(&self, worker: usize, entry: usize, word: usize) -> usize
-        requires shape { IsShape self.now }
         requires worker { worker < self.now.workers }
         requires entry { entry < cell_count self.now }
         requires word { word < WORDS_PER_ENTRY }
@@ -146,7 +149,6 @@ impl Shape {
 
     #[inline(always)]
     pub(crate) fn mark_word(&self, worker: usize, word: usize) -> usize
-        requires shape { IsShape self.now }
         requires worker { worker < self.now.workers }
         requires word { word < MARK_WORDS }
         ensures value { result ≡ row_index self.now worker (mark_row self.now word) }
@@ -157,7 +159,6 @@ impl Shape {
 
     #[inline(always)]
     pub(crate) fn reason_word(&self, worker: usize, owner: usize) -> usize
-        requires shape { IsShape self.now }
         requires worker { worker < self.now.workers }
         requires owner { owner < self.now.workers }
         ensures value { result ≡ row_index self.now worker (reason_row self.now owner) }
@@ -168,7 +169,6 @@ impl Shape {
 
     #[inline(always)]
     pub(crate) fn counter(&self) -> usize
-        requires shape { IsShape self.now }
         ensures value { result ≡ index_of self.now Counter }
         ensures within { result < word_count self.now }
     {
@@ -177,7 +177,6 @@ impl Shape {
 
     #[inline(always)]
     pub(crate) fn row_word(&self, worker: usize, row: usize) -> usize
-        requires shape { IsShape self.now }
         requires worker { worker < self.now.workers }
         requires row { row < row_count self.now }
         ensures value { result ≡ row_index self.now worker row }

@@ -3,7 +3,6 @@
 
 ghost use Rattle.std.specs.Prelude.{◌≡◌};
 ghost use Rattle.rh_words.specs.Requests.{step_asked};
-ghost use Rattle.rh_words.specs.Parts.{IsShape};
 ghost use Rattle.rh_words.specs.Steps.{Allowed, control_seen, noted};
 ghost use Rattle.rh_words.specs.View.{new_view, round_view};
 ghost use Rattle.rh_words.specs.Words.{ref_of};
@@ -81,8 +80,7 @@ impl Side {
     /// Notes a step that was made and found this word.
     #[inline(always)]
     pub fn note(&mut self, shape: &Shape, request: Request, word: u64)
-        requires shape { IsShape shape.now }
-        requires allowed { Allowed shape.now self.old.known.view (step_asked request) }
+        requires { Allowed shape.now self.old.known.view (step_asked request) }
         ensures { self.new.known.view ≡ noted shape.now self.old.known.view
             (step_asked request) word }
     {
@@ -107,8 +105,7 @@ impl Side {
     // The own control as the step shows it.
     #[inline(always)]
     fn control_after(&self, shape: &Shape, request: Request, word: u64) -> u64
-        requires shape { IsShape shape.now }
-        requires allowed { Allowed shape.now self.now.known.view (step_asked request) }
+        requires { Allowed shape.now self.now.known.view (step_asked request) }
         ensures { result ≡ (noted shape.now self.now.known.view (step_asked request) word).control }
     {
         let _ = shape;

@@ -3,7 +3,7 @@
 
 ghost use Rattle.std.specs.Prelude.{◌≡◌, ◌<◌, ℕ, length};
 ghost use Rattle.rh_words.specs.Requests.{changed, step_asked};
-ghost use Rattle.rh_words.specs.Parts.{IsShape, word_count};
+ghost use Rattle.rh_words.specs.Parts.{word_count};
 ghost use Rattle.rh_words.specs.Steps.{Allowed, StepsTo, index, word_after};
 
 use crate::reference::{Piece, Reading, Ref};
@@ -80,8 +80,7 @@ impl Request {
     /// The word that the step touches.
     #[inline(always)]
     pub fn index(&self, shape: &Shape, side: &Side) -> usize
-        requires shape { IsShape shape.now }
-        requires allowed { Allowed shape.now side.now.known.view (step_asked self.now) }
+        requires { Allowed shape.now side.now.known.view (step_asked self.now) }
         ensures value { result ≡ index shape.now side.now.known.view (step_asked self.now) }
         ensures within { result < word_count shape.now }
     {
@@ -100,8 +99,7 @@ impl Request {
     /// What becomes of the word.
     #[inline(always)]
     pub fn effect(&self, shape: &Shape, side: &Side) -> Effect
-        requires shape { IsShape shape.now }
-        requires allowed { Allowed shape.now side.now.known.view (step_asked self.now) }
+        requires { Allowed shape.now side.now.known.view (step_asked self.now) }
         ensures { (n : ℕ) →
             changed result n ≡ word_after side.now.known.view (step_asked self.now) n }
     {
@@ -145,7 +143,6 @@ impl Request {
 /// Makes the step on a slice of words, and answers the word that was found.
 #[inline(always)]
 pub fn make_step(shape: &Shape, words: &mut [u64], side: &mut Side, request: Request) -> u64
-    requires shape { IsShape shape.now }
     requires sized { length words.old ≡ word_count shape.now }
     requires allowed { Allowed shape.now side.old.known.view (step_asked request) }
     ensures { StepsTo shape.now (step_asked request) words.old side.old.known.view

@@ -2,7 +2,6 @@
 
 ghost use Rattle.std.specs.Prelude.{◌≡◌};
 ghost use Rattle.rh_tagword.specs.Control.{IsControl};
-ghost use Rattle.rh_words.specs.Parts.{IsShape};
 ghost use Rattle.rh_words.specs.Steps.{IsDesc, IsMark, decided_word};
 ghost use Rattle.rh_words.specs.Words.{control_of, desc_number, mark_number, ref_of};
 
@@ -13,8 +12,7 @@ use rh_tagword::{State, Word, pack, pack_control};
 /// The word that refers to a mark of the table.
 #[inline(always)]
 pub fn mark_word(shape: &Shape, mark: Ref) -> u64
-    requires shape { IsShape shape.now }
-    requires mark { IsMark shape.now (ref_of mark) }
+    requires { IsMark shape.now (ref_of mark) }
     ensures { result ≡ mark_number (ref_of mark) }
 {
     let _ = shape;
@@ -27,8 +25,7 @@ pub fn mark_word(shape: &Shape, mark: Ref) -> u64
 /// The word that refers to a descriptor of the table.
 #[inline(always)]
 pub fn desc_word(shape: &Shape, desc: Ref) -> u64
-    requires shape { IsShape shape.now }
-    requires desc { IsDesc shape.now (ref_of desc) }
+    requires { IsDesc shape.now (ref_of desc) }
     ensures { result ≡ desc_number (ref_of desc) }
 {
     let _ = shape;

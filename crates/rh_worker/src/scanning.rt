@@ -1,7 +1,6 @@
 //! Scanning the cells from a key's home on, one Read after the other.
 
 ghost use Rattle.std.specs.Prelude.{◌≡◌, ◌≤◌, IfSome, List, None, length, take};
-ghost use Rattle.rh_words.specs.Parts.{IsShape};
 ghost use Rattle.rh_run.specs.Advance.{Advances};
 ghost use Rattle.rh_worker.specs.Makes.{MakesStep};
 ghost use Rattle.rh_steps.specs.Relies.{Relies};
@@ -80,7 +79,6 @@ pub(crate) fn scan<T: Steps>(
 
 /// Goes by what the cells that were seen lead to.
 fn decide(worker: &mut Worker, shape: &Shape, count: usize) -> Option<bool>
-    requires shape { IsShape shape.now }
     requires sound { Sound shape.now worker.old.side.known.view }
     requires key { IsKey worker.old.key }
     requires room { HasRoom shape.now.bits worker.old.buffer }

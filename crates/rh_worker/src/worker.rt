@@ -3,7 +3,6 @@
 ghost use Rattle.std.specs.Prelude.{◌≡◌, ◌↔◌, ◌<◌, ◌⊎◌, ℕ, IfOk, IsTrue, List, []};
 ghost use Rattle.rh_layout.specs.Key.{IsKey};
 ghost use Rattle.rh_world.specs.World.{In};
-ghost use Rattle.rh_words.specs.Parts.{IsShape};
 ghost use Rattle.rh_words.specs.declared.shape.Shape.{Shape};
 ghost use Rattle.rh_words.specs.View.{new_view, round_view};
 ghost use Rattle.rh_words.specs.Steps.Step.{claims};
@@ -60,7 +59,6 @@ impl Worker {
         worker: usize,
         cells: &[u64],
     ) -> Result<Worker, AllocError>
-        requires { IsShape shape.now }
         ensures worker { IfOk result (IsWorker shape.now) }
         ensures idle { IfOk result (λ w. w.stage ≡ stage.Idle) }
         ensures kind { IfOk result (λ w. w.kind ≡ kind) }

@@ -9,7 +9,7 @@ use Rattle.rh_crew.proofs.work.+all_work+fn-all_work-join+arg2+fn-all_work-join+
 pub work-requires : goal.work-requires
 work-requires g t c =
     let one : c.args.seat.count ≡ 1 = grind (arith, nat_tests) in
-    record { rests = alone_rests c.args.table.now c.args.seat c.requires.here c.requires.fresh one }
+    alone_rests c.args.table.now c.args.seat c.requires.here c.requires.fresh one
 
 pub split-second-requires-clause-rows : goal.split-second-requires-clause-rows
 split-second-requires-clause-rows g t c = fresh_rows c.args.table.now.shape _ c.requires.fresh

@@ -47,11 +47,11 @@ loop-preserved g c =
     let m = c.in-Over.ensures.made in
     let k = c.state.ensures in
     let known = known_sub _ _ k.facts.facts _ (known_sub _ _ m.facts _ h.known) in record {
-      trusts = k.trusts;
+      trusts = k.stays.trusts;
       own = k.clear.own;
       stands = subst (λ (w : Work). Stands c.args.shape.now c.state.new.side.known.view w) (sym c.go_about.ensures) (k.clear.owes, known);
       known = known;
-      stays = stays_on _ _ _ (stays_on _ _ _ h.stays m.steps.stays) k.stays;
+      stays = stays_on _ _ _ (stays_on _ _ _ h.stays m.steps.stays) k.stays.stays;
       noted = noted_on _ _ _ (noted_on _ _ _ h.noted (made_notes _ _ _ _ _ _ m)) k.facts;
     }
 

@@ -10,8 +10,8 @@ returns-in-Some c = λ yes.
     let h = c.requires.rests in
     let some : 0 < c.in-Some.size = grind (arith, nat_tests) in record {
       rests = record {
-        here = record { own = e.same.table ∙ h.here.own; alone = e.same.count ∙ h.here.alone };
-        knows = e.knows;
+        here = record { own = e.stays.same.table ∙ h.here.own; alone = e.stays.same.count ∙ h.here.alone };
+        knows = e.stays.knows;
         rested = count_rested _ (sitter_of c.args.seat.now) (sitter_of c.count_entries.new.seat) c.args.desc c.in-Some.size e.says h.rested;
       };
       entry = e.entries 0 some;

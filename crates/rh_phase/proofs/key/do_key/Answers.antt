@@ -21,8 +21,8 @@ loop-preserved g c =
     let next = view_of c.try_key.new.seat in
     let tried = λ (t : Tried). IsTriedSo z kind k (length c.loop.seen) v next t in
     record {
-      rests = e.rests;
-      same = same_on c.args.seat.now c.loop.seat c.try_key.new.seat h.same e.same;
+      rests = e.stays.rests;
+      same = same_on c.args.seat.now c.loop.seat c.try_key.new.seat h.same e.stays.same;
       undone = undone_on z kind k (view_of c.args.seat.now) v next h.undone
           (⊎_elim (λ is. let t : tried Again = subst tried is e.tries in t.0) (λ is. let t : tried Longer = subst tried is e.tries in t.0) c.in-Again.is);
       seen = search rules;

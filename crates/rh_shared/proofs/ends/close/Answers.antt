@@ -1,4 +1,4 @@
-use Rattle.std.proofs.Common.{ℕ, ◌<◌, ◌∙◌, length-set, subst, arith}
+use Rattle.std.proofs.Common.{ℕ, ◌∙◌, length-set, subst, arith}
 use Rattle.std.specs.Mem.Slots.{slots_items}
 use Rattle.rh_rule.specs.Seats.{Spans}
 use Rattle.rh_shared.proofs.Made.{closes_with, leaves, one_more, value_given}
@@ -9,7 +9,7 @@ unwrap-value-requires c =
     let t = c.args.table in
     let q = c.args.seat in
     let f = c.close_with-closed.ensures.values.2 in
-    let m = closes_with t.shape t.inner.shared.key.shape q.inner.id q.inner.me.0 f.0 (slots_items c.close_with-closed.result.words) t.same (subst (λ (n : ℕ). 0 < n) c.requires.all.count q.some)
+    let m = closes_with t.shape t.inner.shared.key.shape q.inner.id q.inner.me.0 f.0 (slots_items c.close_with-closed.result.words) t.same
     (subst (λ (x : ℕ × ℕ). Spans q.inner.me.0 x.0 x.1) (λ i. (c.requires.all.first i, c.requires.all.count i)) q.spans) f.1.0 f.1.1 c.requires.rest f.2 in
     let l = c.loop-cell in
     let sized = l.invariant.sized in
@@ -22,7 +22,7 @@ loop-cell-preserved c =
     let t = c.args.table in
     let q = c.args.seat in
     let f = c.close_with-closed.ensures.values.2 in
-    let m = closes_with t.shape t.inner.shared.key.shape q.inner.id q.inner.me.0 f.0 (slots_items c.close_with-closed.result.words) t.same (subst (λ (n : ℕ). 0 < n) c.requires.all.count q.some)
+    let m = closes_with t.shape t.inner.shared.key.shape q.inner.id q.inner.me.0 f.0 (slots_items c.close_with-closed.result.words) t.same
     (subst (λ (x : ℕ × ℕ). Spans q.inner.me.0 x.0 x.1) (λ i. (c.requires.all.first i, c.requires.all.count i)) q.spans) f.1.0 f.1.1 c.requires.rest f.2 in
     let l = c.loop-cell in
     let sized = l.invariant.sized in
@@ -39,7 +39,7 @@ returns c =
     let t = c.args.table in
     let q = c.args.seat in
     let f = c.close_with-closed.ensures.values.2 in
-    let m = closes_with t.shape t.inner.shared.key.shape q.inner.id q.inner.me.0 f.0 (slots_items c.close_with-closed.result.words) t.same (subst (λ (n : ℕ). 0 < n) c.requires.all.count q.some)
+    let m = closes_with t.shape t.inner.shared.key.shape q.inner.id q.inner.me.0 f.0 (slots_items c.close_with-closed.result.words) t.same
     (subst (λ (x : ℕ × ℕ). Spans q.inner.me.0 x.0 x.1) (λ i. (c.requires.all.first i, c.requires.all.count i)) q.spans) f.1.0 f.1.1 c.requires.rest f.2 in
     let l = c.loop-cell in
     let sized = l.invariant.sized in

@@ -1,6 +1,5 @@
 use Rattle.std.proofs.Common.{◌<◌, ◌∙◌, ℕ, ap, subst, sym}
-use Rattle.rh_words.specs.Parts.{IsShape, word_count}
-use Rattle.rh_words.specs.declared.shape.Shape.{Shape}
+use Rattle.rh_words.specs.Parts.{word_count}
 use Rattle.rh_shared.proofs.Allowing.{allows}
 use Rattle.rh_shared.proofs.steps.load.Goals as goal
 
@@ -10,5 +9,5 @@ load-requires g c =
     let r = c.requires in (
       r.sits.own,
       subst (λ (n : ℕ). c.args.at < n) (sym (t.sized ∙ ap word_count r.sits.shape)) r.within,
-      allows g.B.Makes.shape t.inner.shared.key.shape _ _ _ g.B.Makes.view g.B.Makes.step c.args.at _ (subst (λ (x : Shape). IsShape x) r.sits.shape t.fits) (t.same ∙ r.sits.shape) r.sits.view r.allowed r.index r.effect,
+      allows g.B.Makes.shape t.inner.shared.key.shape _ _ _ g.B.Makes.view g.B.Makes.step c.args.at _ (t.same ∙ r.sits.shape) r.sits.view r.allowed r.index r.effect,
     )

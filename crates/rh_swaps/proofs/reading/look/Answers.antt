@@ -14,7 +14,9 @@ returns-in-Spent-clause-reads g c =
     none_seen c.args.shape.now c.args.cell c.args.side.now.known.view c.look.new.side.known.view (made_notes _ _ _ _ _ _ e.made) e.leads.1
 
 pub returns-in-On-clause-stays : goal.returns-in-On-clause-stays
-returns-in-On-clause-stays g c = stays_on _ _ _ c.in-On.ensures.made.steps.stays c.look_on_copy.ensures.stays
+returns-in-On-clause-stays g c =
+    let after = c.look_on_copy.ensures.stays in
+    record { stays = stays_on _ _ _ c.in-On.ensures.made.steps.stays after.stays; trusts = after.trusts }
 
 pub returns-in-On-clause-reads : goal.returns-in-On-clause-reads
 returns-in-On-clause-reads g c =

@@ -11,8 +11,8 @@ loop-preserved-in-Again g c =
     let h = c.loop.invariant in
     let e = c.in-Again.ensures in
     record {
-      rests = e.rests;
-      same = same_on c.args.seat.now c.loop.seat c.try_in_buffer.new.seat h.same e.same;
+      rests = e.stays.rests;
+      same = same_on c.args.seat.now c.loop.seat c.try_in_buffer.new.seat h.same e.stays.same;
       undone = undone_on c.args.table.now.shape c.args.kind c.args.key (view_of c.args.seat.now) (view_of c.loop.seat) (view_of c.try_in_buffer.new.seat) h.undone e.tries.0;
       room = e.room;
     }
@@ -22,8 +22,8 @@ loop-preserved g c =
     let h = c.loop.invariant in
     let e = c.in-Longer.ensures in
     record {
-      rests = e.rests;
-      same = same_on c.args.seat.now c.loop.seat c.try_in_buffer.new.seat h.same e.same;
+      rests = e.stays.rests;
+      same = same_on c.args.seat.now c.loop.seat c.try_in_buffer.new.seat h.same e.stays.same;
       undone = undone_on c.args.table.now.shape c.args.kind c.args.key (view_of c.args.seat.now) (view_of c.loop.seat) (view_of c.try_in_buffer.new.seat) h.undone e.tries.0;
       room = c.use_more.ensures.room;
     }

@@ -20,8 +20,8 @@ loop-preserved g c =
     let has : n.has_key ≡ true = c.if-not-next_key.ensures.has_key refl in
     let key = slice_index keys n.position in
     record {
-      rests = e.rests;
-      same = same_on _ _ _ (same_on _ _ _ h.same next.same) e.same;
+      rests = e.stays.rests;
+      same = same_on _ _ _ (same_on _ _ _ h.same next.stays.same) e.stays.same;
       hand = record {
         room = subst (HasBufferRoom z.bits) (sym c.count.ensures.buffer) e.room;
         within = λ still. absurd (true≢false (sym still ∙ c.count.ensures.no_key));

@@ -15,7 +15,7 @@ returns-in_default-clause-stands g c past was =
     let e = c.in_default.ensures in
     let r = c.requires in
     let may = may_claim z v r.rests.rested.clear r.rests.knows (r.hand.claims.below c.if-hand-2.false) in
-    stands_ended z c.args.keys.now past c.args.hand.now _ v (view_of c.claim.new.seat) was e.claims.position may e.claims.view_is e.rests.knows.sound refl c.if-hand.false refl refl refl
+    stands_ended z c.args.keys.now past c.args.hand.now _ v (view_of c.claim.new.seat) was e.claims.position may e.claims.view_is e.stays.rests.knows.sound refl c.if-hand.false refl refl refl
     e.claims.is (ap (λ (b : Bool). left_over b c.args.hand.now.position) c.if-hand.false)
 
 pub returns-clause-hand : goal.returns-clause-hand
@@ -40,5 +40,5 @@ returns-clause-stands g c past was =
     let e = c.in-Some.ensures in
     let r = c.requires in
     let may = may_claim z v r.rests.rested.clear r.rests.knows (r.hand.claims.below c.if-hand-2.false) in
-    stands_claimed z c.args.keys.now past c.args.hand.now _ v (view_of c.claim.new.seat) was e.claims.position may e.claims.view_is e.rests.knows.sound refl c.if-hand.false refl refl refl
+    stands_claimed z c.args.keys.now past c.args.hand.now _ v (view_of c.claim.new.seat) was e.claims.position may e.claims.view_is e.stays.rests.knows.sound refl c.if-hand.false refl refl refl
     e.claims.is.0 (ap (λ (n : ℕ). n ∷ []) e.claims.is.1)

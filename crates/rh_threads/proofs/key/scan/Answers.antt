@@ -22,7 +22,7 @@ returns-in_default-clause-undone g c =
     let h = c.loop-count.invariant in
     let e = c.in_default.ensures in
     undone_on z c.args.kind c.args.key (view_of c.args.seat.now) (view_of c.loop-count.seat) (view_of c.read.new.seat) h.undone
-    (undone_read z c.args.kind c.args.key (view_of c.loop-count.seat) (view_of c.read.new.seat) h.rests.rested e.rests.rested c.cell_after-cell.result None (search rules) e.acts e.reads)
+    (undone_read z c.args.kind c.args.key (view_of c.loop-count.seat) (view_of c.read.new.seat) h.rests.rested e.stays.rests.rested c.cell_after-cell.result None (search rules) e.acts e.reads)
 
 pub returns-in-Done-clause-undone : goal.returns-in-Done-clause-undone
 returns-in-Done-clause-undone g c =
@@ -30,7 +30,7 @@ returns-in-Done-clause-undone g c =
     let h = c.loop-count.invariant in
     let e = c.in-Some.ensures in
     undone_on z c.args.kind c.args.key (view_of c.args.seat.now) (view_of c.loop-count.seat) (view_of c.read.new.seat) h.undone
-    (undone_read z c.args.kind c.args.key (view_of c.loop-count.seat) (view_of c.read.new.seat) h.rests.rested e.rests.rested c.cell_after-cell.result _ (search rules) e.acts e.reads)
+    (undone_read z c.args.kind c.args.key (view_of c.loop-count.seat) (view_of c.read.new.seat) h.rests.rested e.stays.rests.rested c.cell_after-cell.result _ (search rules) e.acts e.reads)
 
 pub returns-in-Acts-clause-undone : goal.returns-in-Acts-clause-undone
 returns-in-Acts-clause-undone g c =
@@ -38,7 +38,7 @@ returns-in-Acts-clause-undone g c =
     let h = c.loop-count.invariant in
     let e = c.in-Some.ensures in
     undone_on z c.args.kind c.args.key (view_of c.args.seat.now) (view_of c.loop-count.seat) (view_of c.read.new.seat) h.undone
-    (undone_read z c.args.kind c.args.key (view_of c.loop-count.seat) (view_of c.read.new.seat) h.rests.rested e.rests.rested c.cell_after-cell.result _ (search rules) e.acts e.reads)
+    (undone_read z c.args.kind c.args.key (view_of c.loop-count.seat) (view_of c.read.new.seat) h.rests.rested e.stays.rests.rested c.cell_after-cell.result _ (search rules) e.acts e.reads)
 
 pub returns-in-Done-clause-scans : goal.returns-in-Done-clause-scans
 returns-in-Done-clause-scans g c =
@@ -97,8 +97,8 @@ loop-count-preserved g c =
     let passed = λ (is : Bool). AllArePassed is kind b k (take (n + 1) now) in
     record {
       within = let t = c.loop-count-test.true in omega (arith, t);
-      rests = e.rests;
-      same = same_on c.args.seat.now l.seat c.read.new.seat h.same e.same;
+      rests = e.stays.rests;
+      same = same_on c.args.seat.now l.seat c.read.new.seat h.same e.stays.same;
       unopened = e.reads.next_number ∙ h.unopened;
       passed = elim c.if-may_decide.branch [
         | then-may_decide+in-More w ↦ subst passed (sym w.is_placed-is)
@@ -109,7 +109,7 @@ loop-count-preserved g c =
             (subst (λ (m : ℕ). IsPassed l.is_placed kind b k m c.unwrap-value.result) here (c.may_decide.ensures.0 w.if-may_decide.false)))
       ];
       undone = undone_on z c.args.kind k (view_of c.args.seat.now) (view_of l.seat) (view_of c.read.new.seat) h.undone
-          (undone_read z c.args.kind k (view_of l.seat) (view_of c.read.new.seat) h.rests.rested e.rests.rested c.cell_after-cell.result _ (search rules) e.acts e.reads);
+          (undone_read z c.args.kind k (view_of l.seat) (view_of c.read.new.seat) h.rests.rested e.stays.rests.rested c.cell_after-cell.result _ (search rules) e.acts e.reads);
       read = subst (HasScanned z before (view_of c.read.new.seat) k now) next read;
       values = one_value l.seen n c.unwrap-value.result within said.0 h.values;
       seen = length-set l.seen n c.unwrap-value.result ∙ h.seen;

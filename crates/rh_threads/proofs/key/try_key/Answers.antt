@@ -28,7 +28,7 @@ returns-in-Done-kcas-clause-tries g c =
     let e = c.in-Acts.ensures in
     let s = c.in-Done-kcas.ensures in
     done_on z c.args.kind c.args.key (view_of c.args.seat.now) (view_of c.scan.new.seat) (view_of c.kcas.new.seat) plan.changes e.undone
-    (swap_done z c.args.kind c.args.key (view_of c.scan.new.seat) (view_of c.kcas.new.seat) e.rests.rested s.rests.rested (take plan.entries c.scan.new.entries) plan.changes e.scans.act
+    (swap_done z c.args.kind c.args.key (view_of c.scan.new.seat) (view_of c.kcas.new.seat) e.stays.rests.rested s.stays.rests.rested (take plan.entries c.scan.new.entries) plan.changes e.scans.act
     s.swaps.reads s.swaps.claims s.swaps.opening ended.Succeeded s.swaps.became.0 s.swaps.became.1)
 
 pub returns-in-Failed-clause-tries : goal.returns-in-Failed-clause-tries
@@ -38,7 +38,7 @@ returns-in-Failed-clause-tries g c =
     let e = c.in-Acts.ensures in
     let s = c.in-Failed.ensures in (
       undone_on z c.args.kind c.args.key (view_of c.args.seat.now) (view_of c.scan.new.seat) (view_of c.kcas.new.seat) e.undone
-          (swap_failed z c.args.kind c.args.key (view_of c.scan.new.seat) (view_of c.kcas.new.seat) e.rests.rested s.rests.rested (take plan.entries c.scan.new.entries) plan.changes e.scans.act
+          (swap_failed z c.args.kind c.args.key (view_of c.scan.new.seat) (view_of c.kcas.new.seat) e.stays.rests.rested s.stays.rests.rested (take plan.entries c.scan.new.entries) plan.changes e.scans.act
           s.swaps.reads s.swaps.claims s.swaps.opening _ s.swaps.became.0 s.swaps.became.1),
       s.swaps.became.0.next_number ∙ ap (λ (n : ℕ). suc n) e.unopened,
     )
@@ -49,6 +49,6 @@ returns-in-Spent-kcas-clause-tries g c =
     let plan = c.in-Acts.plan in
     let e = c.in-Acts.ensures in
     let s = c.in-Spent-kcas.ensures in
-    let up = swap_given_up z c.args.kind c.args.key (view_of c.scan.new.seat) (view_of c.kcas.new.seat) e.rests.rested s.rests.rested (take plan.entries c.scan.new.entries) plan.changes e.scans.act
+    let up = swap_given_up z c.args.kind c.args.key (view_of c.scan.new.seat) (view_of c.kcas.new.seat) e.stays.rests.rested s.stays.rests.rested (take plan.entries c.scan.new.entries) plan.changes e.scans.act
     s.swaps.reads s.swaps.claims s.swaps.opening s.swaps.became.0 s.swaps.became.1 s.swaps.became.2 in
     (undone_on z c.args.kind c.args.key (view_of c.args.seat.now) (view_of c.scan.new.seat) (view_of c.kcas.new.seat) e.undone up.0, up.1)

@@ -26,5 +26,5 @@ returns g c =
     let e = c.do_keys.ensures in
     one_worked c.args.table.now c.args.keys.now c.args.crew c.requires.one c.requires.can c.do_keys.new.seat c.unwrap-hand.result.now c.do_keys.new.hand
     (first_at c.args.crew.hands c.unwrap-hand.result.now one (subst (λ o. IfSome o (λ x. x.now ≡ slice_index_or c.args.crew.hands 0 x.now)) c.unwrap-hand.ensures c.front_mut.ensures.value))
-    (record { own = e.rests.here.own; within = let w = c.requires.can.crew.here.within in let o = c.requires.one in let a = e.rests.here.alone in let s = e.same.worker in omega (arith, w, o, a, s) })
-    e.rests.here.alone e.same.worker (record { still = e.rests.knows.still; rest = record { closed = e.rests.rested.clear.own.current; settled = e.rests.rested.clear.owes.settled; paid = e.rests.rested.clear.owes.paid } }) e.hand e.stopped e.stands
+    (record { own = e.stays.rests.here.own; within = let w = c.requires.can.crew.here.within in let o = c.requires.one in let a = e.stays.rests.here.alone in let s = e.stays.same.worker in omega (arith, w, o, a, s) })
+    e.stays.rests.here.alone e.stays.same.worker (record { still = e.stays.rests.knows.still; rest = record { closed = e.stays.rests.rested.clear.own.current; settled = e.stays.rests.rested.clear.owes.settled; paid = e.stays.rests.rested.clear.owes.paid } }) e.hand e.stopped e.stands

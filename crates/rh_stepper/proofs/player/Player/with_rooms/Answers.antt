@@ -1,13 +1,11 @@
-use Rattle.std.proofs.Common.{◌≡◌, ◌∙◌, List, ℕ, length, sym, subst, arith, true}
+use Rattle.std.proofs.Common.{◌≡◌, ◌∙◌, List, ℕ, length, sym, subst, true}
 use Rattle.std.specs.Prelude.{All}
 use Rattle.rh_layout.specs.Key.{IsKey}
 use Rattle.rh_layout.specs.Layout.{IsLayout, keys_of}
 use Rattle.rh_acts.specs.Workers.{LeavesRoom}
-use Rattle.rh_words.specs.declared.shape.Shape.{Shape}
-use Rattle.rh_words.specs.Parts.{IsShape}
 use Rattle.rh_stepper.specs.SetUp.{AreDealt}
-use Rattle.rh_stepper.specs.Start.{are_keys, keys_of_pieces}
-use Rattle.rh_stepper.proofs.Starting.{all_keys, has_room, is_shape, made_none, no_fault, pieces_are, refuses_key, refuses_memory}
+use Rattle.rh_stepper.specs.Start.{HasSizes, are_keys, keys_of_pieces}
+use Rattle.rh_stepper.proofs.Starting.{all_keys, has_room, are_workers, made_none, no_fault, pieces_are, refuses_key, refuses_memory}
 use Rattle.rh_stepper.proofs.player.Player.with_rooms.Goals as goal
 
 pub returns-then-not-are_all_keys : goal.returns-then-not-are_all_keys
@@ -21,19 +19,17 @@ returns-in_err-keys c =
     (refuses_memory c.args.kind c.args.bits c.args.cells.now (length c.args.pieces.now) (keys_of_pieces c.args.pieces.now)
     (c.in_ok-test_table.ensures.tests (keys_of_pieces c.args.pieces.now) c.count_keys.ensures) (sym c.are_all_keys.ensures ∙ c.if-not-are_all_keys.false))
 
-pub set_up-requires-clause-shape : goal.set_up-requires-clause-shape
-set_up-requires-clause-shape c =
-    subst IsShape (sym c.shape_for-shape.ensures)
-    (is_shape c.args.kind c.args.bits c.args.cells.now (length c.args.pieces.now) (keys_of_pieces c.args.pieces.now)
-    (c.in_ok-test_table.ensures.tests (keys_of_pieces c.args.pieces.now) c.count_keys.ensures) c.in_ok-test_table.ensures.layout c.args.rooms c.requires 0 (omega arith))
+pub shape_for-shape-requires-clause-workers : goal.shape_for-shape-requires-clause-workers
+shape_for-shape-requires-clause-workers c =
+    are_workers c.args.kind c.args.bits c.args.cells.now (length c.args.pieces.now) (keys_of_pieces c.args.pieces.now) (c.in_ok-test_table.ensures.tests (keys_of_pieces c.args.pieces.now) c.count_keys.ensures) c.in_ok-test_table.ensures.layout
 
 pub set_up-requires-clause-opening : goal.set_up-requires-clause-opening
-set_up-requires-clause-opening c = subst (λ (z : Shape). IsLayout z.bits c.args.cells.now) (sym c.shape_for-shape.ensures) c.in_ok-test_table.ensures.layout
+set_up-requires-clause-opening c = subst (λ (n : ℕ). IsLayout n c.args.cells.now) (sym c.shape_for-shape.ensures.bits_are) c.in_ok-test_table.ensures.layout
 
 pub set_up-requires-clause-room : goal.set_up-requires-clause-room
 set_up-requires-clause-room c =
     subst (λ (keys : List ℕ). LeavesRoom c.args.kind c.shape_for-shape.result.bits (keys_of c.args.cells.now) keys) (sym c.in_ok-keys.ensures.keys)
-    (subst (λ (z : Shape). LeavesRoom c.args.kind z.bits (keys_of c.args.cells.now) (keys_of_pieces c.args.pieces.now)) (sym c.shape_for-shape.ensures)
+    (subst (λ (n : ℕ). LeavesRoom c.args.kind n (keys_of c.args.cells.now) (keys_of_pieces c.args.pieces.now)) (sym c.shape_for-shape.ensures.bits_are)
     (has_room c.args.kind c.args.bits c.args.cells.now (length c.args.pieces.now) (keys_of_pieces c.args.pieces.now)
     (c.in_ok-test_table.ensures.tests (keys_of_pieces c.args.pieces.now) c.count_keys.ensures) c.in_ok-test_table.ensures.layout))
 
@@ -56,7 +52,8 @@ returns c =
       no_fault c.args.kind c.args.bits c.args.cells.now (length c.args.pieces.now) (keys_of_pieces c.args.pieces.now)
           (c.in_ok-test_table.ensures.tests (keys_of_pieces c.args.pieces.now) c.count_keys.ensures) good,
       record {
-        start = record { kind_is = start.kind_is; shape_is = start.shape_is ∙ c.shape_for-shape.ensures; opening_is = start.opening_is; keys_are = keys_are; starts = start.starts };
+        sizes = subst (HasSizes c.args.bits (length c.args.pieces.now) c.args.rooms 0) (sym c.in_ok-set_up.ensures.shape) c.shape_for-shape.ensures;
+        start = record { kind_is = start.kind_is; opening_is = start.opening_is; keys_are = keys_are; starts = start.starts };
         pieces_are = pieces_are c.args.pieces.now c.in_ok-keys.shares.items g (c.in_ok-set_up.ensures.shares ∙ c.deref.ensures.value)
             (subst (λ (keys : List ℕ). AreDealt keys c.in_ok-keys.shares.items c.args.pieces.now) (sym start.keys_are) c.in_ok-keys.ensures.each);
       },

@@ -22,6 +22,6 @@ returns c =
     record {
       view_is = to.view_is;
       finds = subst (λ (n : ℕ). Finds z v s n) (sym to.found_is) (c.requires.relies.may.finds s c.requires.allowed);
-      trusts = record { shape = t.shape; knows = t.knows; rows = subst (λ (l : List ℕ). Shows z l next) (sym is) t.rows };
+      trusts = record { knows = t.knows; rows = subst (λ (l : List ℕ). Shows z l next) (sym is) t.rows };
       makes = subst (λ (l : List ℕ). StepsTo z s c.args.self.now.items v word l next) (sym is) to;
     }
