@@ -52,7 +52,7 @@ KEEPING = {
     "Kept.keep_tried": "self name kind text",
     "Kept.is_untouched": "self crate",
 }
-ANEW = {"crates_of": "root aside", "edits_of": "crate"}
+ANEW = {"crates_of": "root aside", "edits_of": "crate", "rtlib.stop_on_unread": "top crates"}
 RELEASES = {"rattle-kit-13f": KEEPING, "rattle-kit-13b": ANEW}
 VALUES = "KIT rtlib.PARTS rtlib.RATTLE rtlib.STALE"
 OF_KEEPING = "REFUSED MISSED SETTLED"
