@@ -35,7 +35,7 @@ pub fn all_work<R: Threads + Sync, T: Send, W: Work<R, T> + Sync>(
     ensures { HaveWorked table.now seat result.0 }
 {
     if seat.count == 1 {
-        return work.work(rt, table, seat);
+        return one_work(rt, table, seat, work);
     }
     let mut first = seat;
     let at = first.side.worker + first.count / 2;
@@ -55,6 +55,16 @@ pub fn all_work<R: Threads + Sync, T: Send, W: Work<R, T> + Sync>(
     );
     join(table, &mut all, others);
     (all, work.both(ours, theirs))
+}
+
+/// Has the only worker of the seat do its work. (It is called apart, so that the work has all
+/// registers, where in one function with the forks it was 1.05 times as many instructions a swap.)
+#[inline(never)]
+fn one_work<R, T, W: Work<R, T>>(rt: &R, table: &Table, seat: Seat, work: &W) -> (Seat, T)
+    requires { SeatRests table.now seat }
+    ensures { StaysAtRest table.now seat result.0 }
+{
+    work.work(rt, table, seat)
 }
 
 /// One round: all workers of the table do their work, then the rows are wiped.

@@ -6,8 +6,8 @@ use Rattle.rh_shared.proofs.Crews.{fresh_rows}
 use Rattle.rh_crew.proofs.Seats.{alone_rests, both_quiet}
 use Rattle.rh_crew.proofs.work.+all_work+fn-all_work-join+arg2+fn-all_work-join+arg3.Goals as goal
 
-pub work-requires : goal.work-requires
-work-requires g t c =
+pub one_work-requires : goal.one_work-requires
+one_work-requires g t c =
     let one : c.args.seat.count ≡ 1 = grind (arith, nat_tests) in
     alone_rests c.args.table.now c.args.seat c.requires.here c.requires.fresh one
 
