@@ -1,13 +1,13 @@
 //! Command lines: the program before its commands, its arguments, and what `clap` finds in the
 //! words.
 
-ghost use Rattle.std.specs.Prelude.{◌≡◌, [], map, IfOk, IfErr, IsOkAnd, false, true};
+ghost use Rattle.std.specs.Prelude.{◌≡◌, [], map, IfOk, IfErr, IsOkAnd, true};
 ghost use Rattle.clap.specs.Simple.{new_app};
 ghost use Rattle.clap.specs.Words.{AddsSubcommand, app_of, fault_of, found_of, is_simple_and_free};
-ghost use Rattle.clap.specs.Words.{rows_of, rule_of};
+ghost use Rattle.clap.specs.Words.{rows_of};
 ghost use Rattle.clap.specs.Words.{subcommand_of, subcommand_rows_of};
 ghost use Rattle.rh_arguments.specs.Faults.{IsOneOf};
-ghost use Rattle.rh_arguments.specs.Words.{IsTextFor, GivesAll, GivesNumber, HasNumber, HasText, path_rule, program_app};
+ghost use Rattle.rh_arguments.specs.Words.{IsArg, IsTextFor, GivesAll, GivesNumber, HasNumber, HasText, path_rule, program_app};
 ghost use Rattle.rh_arguments.specs.Words.{texts_of};
 
 use crate::fault::LineFault;
@@ -115,8 +115,7 @@ pub fn number(given: &ArgMatches<'_>, id: &str, least: usize, most: usize) -> us
 
 /// An argument that has to be given, such as a path, and may be any text.
 pub fn text_arg<'a>(alloc: Global, id: &'a str, name: &'a str, help: &'a str) -> Arg<'a>
-    ensures rule { rule_of result ≡ path_rule id.now }
-    ensures local { result.global ≡ false }
+    ensures { IsArg (path_rule id.now) result }
 {
     Arg::new(alloc, id)
         .value_name(name)

@@ -1,10 +1,10 @@
 //! Reading the words of the command line.
 
-ghost use Rattle.std.specs.Prelude.{◌≡◌, [], IfOk, IfErr, codes, false};
-ghost use Rattle.clap.specs.Words.{app_of, fault_of, found_of, rows_of, rule_of};
+ghost use Rattle.std.specs.Prelude.{◌≡◌, [], IfOk, IfErr, codes};
+ghost use Rattle.clap.specs.Words.{app_of, fault_of, found_of, rows_of};
 ghost use Rattle.clap.specs.Words.{subcommand_of, subcommand_rows_of};
 ghost use Rattle.rh_arguments.specs.Faults.{IsOneOf};
-ghost use Rattle.rh_arguments.specs.Words.{Finds, HasText, texts_of};
+ghost use Rattle.rh_arguments.specs.Words.{Finds, HasText, IsArg, texts_of};
 ghost use Rattle.rh_play_commands.specs.Line.{Asks, HasDrawArguments, IsCommand, Says, draw_app};
 ghost use Rattle.rh_play_commands.specs.Line.{from_rule, play_app, rhplay_app, steps_rule, trace_app};
 
@@ -122,8 +122,7 @@ fn draw_command<'a>(alloc: Global) -> Result<Command<'a>, AllocError>
 }
 
 fn from_arg<'a>(alloc: Global) -> Arg<'a>
-    ensures rule { rule_of result ≡ from_rule }
-    ensures local { result.global ≡ false }
+    ensures { IsArg from_rule result }
 {
     Arg::new(alloc, "from")
         .long("from")
@@ -135,8 +134,7 @@ fn from_arg<'a>(alloc: Global) -> Arg<'a>
 }
 
 fn steps_arg<'a>(alloc: Global) -> Arg<'a>
-    ensures rule { rule_of result ≡ steps_rule }
-    ensures local { result.global ≡ false }
+    ensures { IsArg steps_rule result }
 {
     Arg::new(alloc, "steps")
         .long("steps")

@@ -1,12 +1,12 @@
 //! Reading the words of the command line.
 
-ghost use Rattle.std.specs.Prelude.{◌≡◌, [], IfOk, IfErr, codes, false};
-ghost use Rattle.clap.specs.Words.{app_of, fault_of, found_of, rows_of, rule_of};
+ghost use Rattle.std.specs.Prelude.{◌≡◌, [], IfOk, IfErr, codes};
+ghost use Rattle.clap.specs.Words.{app_of, fault_of, found_of, rows_of};
 ghost use Rattle.clap.specs.Words.{subcommand_of, subcommand_rows_of};
 ghost use Rattle.rh_arguments.specs.Faults.{IsOneOf};
 ghost use Rattle.rh_commands.specs.Line.{Asks, HasRunArguments, IsCommand, Says, check_app, dump_app};
 ghost use Rattle.rh_commands.specs.Line.{rhset_app, run_app, workers_rule};
-ghost use Rattle.rh_arguments.specs.Words.{Finds, HasText, texts_of};
+ghost use Rattle.rh_arguments.specs.Words.{Finds, HasText, IsArg, texts_of};
 
 use super::asked::Line;
 use super::help;
@@ -112,8 +112,7 @@ fn check_command<'a>(alloc: Global) -> Result<Command<'a>, AllocError>
 }
 
 fn workers_arg<'a>(alloc: Global) -> Arg<'a>
-    ensures rule { rule_of result ≡ workers_rule }
-    ensures local { result.global ≡ false }
+    ensures { IsArg workers_rule result }
 {
     Arg::new(alloc, "workers")
         .long("workers")

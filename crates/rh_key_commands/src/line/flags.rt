@@ -1,15 +1,15 @@
 //! Flags, whose long names are their ids.
 
-ghost use Rattle.std.specs.Prelude.{◌≡◌, ◌↔◌, IsTrue, false};
-ghost use Rattle.clap.specs.Words.{found_of, rows_of, rule_of};
+ghost use Rattle.std.specs.Prelude.{◌↔◌, IsTrue};
+ghost use Rattle.clap.specs.Words.{found_of, rows_of};
+ghost use Rattle.rh_arguments.specs.Words.{IsArg};
 ghost use Rattle.rh_key_commands.specs.Flags.{IsGiven, flag_rule};
 
 use clap::{Arg, ArgAction, ArgMatches};
 use std::alloc::Global;
 
 pub(super) fn flag_arg<'a>(alloc: Global, id: &'a str, help: &'a str) -> Arg<'a>
-    ensures rule { rule_of result ≡ flag_rule id.now }
-    ensures local { result.global ≡ false }
+    ensures { IsArg (flag_rule id.now) result }
 {
     Arg::new(alloc, id)
         .long(id)

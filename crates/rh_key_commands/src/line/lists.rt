@@ -1,7 +1,8 @@
 //! The commands that make one list of several: `intersect`, `union`, `subtract` and `xor`.
 
-ghost use Rattle.std.specs.Prelude.{◌≡◌, IfOk, false};
-ghost use Rattle.clap.specs.Words.{app_of, found_of, rows_of, rule_of};
+ghost use Rattle.std.specs.Prelude.{◌≡◌, IfOk};
+ghost use Rattle.clap.specs.Words.{app_of, found_of, rows_of};
+ghost use Rattle.rh_arguments.specs.Words.{IsArg};
 ghost use Rattle.rh_key_commands.specs.Line.{SaysKeys};
 ghost use Rattle.rh_key_commands.specs.Lists.{HasWorkers, lists_app, lists_rule, name_of, workers_rule};
 
@@ -49,8 +50,7 @@ pub(super) fn lists_command<'a>(
 }
 
 fn workers_arg<'a>(alloc: Global) -> Arg<'a>
-    ensures rule { rule_of result ≡ workers_rule }
-    ensures local { result.global ≡ false }
+    ensures { IsArg workers_rule result }
 {
     Arg::new(alloc, "workers")
         .long("workers")
@@ -62,8 +62,7 @@ fn workers_arg<'a>(alloc: Global) -> Arg<'a>
 }
 
 fn lists_arg<'a>(alloc: Global) -> Arg<'a>
-    ensures rule { rule_of result ≡ lists_rule }
-    ensures local { result.global ≡ false }
+    ensures { IsArg lists_rule result }
 {
     Arg::new(alloc, "file")
         .value_name("FILE")

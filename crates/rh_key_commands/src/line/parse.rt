@@ -1,13 +1,13 @@
 //! Reading the words of the command line.
 
-ghost use Rattle.std.specs.Prelude.{◌≡◌, [], IfOk, IfErr, codes, false};
-ghost use Rattle.clap.specs.Words.{app_of, fault_of, found_of, rows_of, rule_of};
+ghost use Rattle.std.specs.Prelude.{◌≡◌, [], IfOk, IfErr, codes};
+ghost use Rattle.clap.specs.Words.{app_of, fault_of, found_of, rows_of};
 ghost use Rattle.clap.specs.Words.{subcommand_of, subcommand_rows_of};
 ghost use Rattle.rh_arguments.specs.Faults.{IsOneOf};
 ghost use Rattle.rh_key_commands.specs.Line.{AsksKeys, HasSplitArguments, IsKeysCommand, SaysKeys};
 ghost use Rattle.rh_key_commands.specs.Line.{files_rule, list_app, lists_added, pack_app, parts_rule};
 ghost use Rattle.rh_key_commands.specs.Line.{rhkeys_app, split_app};
-ghost use Rattle.rh_arguments.specs.Words.{Finds, program_app, texts_of};
+ghost use Rattle.rh_arguments.specs.Words.{Finds, IsArg, program_app, texts_of};
 
 use super::asked::{Combination, Line};
 use super::flags::{flag_arg, is_given};
@@ -153,8 +153,7 @@ fn split_command<'a>(alloc: Global) -> Result<Command<'a>, AllocError>
 }
 
 fn parts_arg<'a>(alloc: Global) -> Arg<'a>
-    ensures rule { rule_of result ≡ parts_rule }
-    ensures local { result.global ≡ false }
+    ensures { IsArg parts_rule result }
 {
     Arg::new(alloc, "parts")
         .long("parts")
@@ -166,8 +165,7 @@ fn parts_arg<'a>(alloc: Global) -> Arg<'a>
 }
 
 fn files_arg<'a>(alloc: Global) -> Arg<'a>
-    ensures rule { rule_of result ≡ files_rule }
-    ensures local { result.global ≡ false }
+    ensures { IsArg files_rule result }
 {
     Arg::new(alloc, "file")
         .value_name("FILE")
