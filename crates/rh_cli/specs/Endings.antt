@@ -1,6 +1,9 @@
 -- How a program ends.
-use Rattle.std.specs.Prelude.{◌≡◌, ◌⊎◌, ℕ, List, Option, Result, Ok, Err, IfErr}
+use Rattle.std.specs.Prelude.{◌≡◌, ◌⊎◌, ℕ, List, [], Option, Result, Ok, Err, IfErr, OnOk}
+use Rattle.std.specs.Global.{Global}
+use Rattle.std.specs.Io.Buffered.{writer_buffer, writer_contents}
 use Rattle.std.specs.Io.KnownBytes.{Keeps}
+use Rattle.std.specs.declared.io.buffered.BufWriter.{BufWriter}
 use Rattle.clap.specs.declared.error.kind.ErrorKind.{ErrorKind}
 use Rattle.clap.specs.declared.error.kind.ErrorKind.TheVariants.{DisplayHelp, DisplayVersion}
 use Rattle.rh_cli.specs.declared.status.ProgramFault.{ProgramFault}
@@ -55,9 +58,22 @@ pub record Ends {X E F : Type 0} (Tells : E → F → Type 0) (of_program : Prog
   pub kept : Keeps output now
   pub told : Result (Unit {0}) F
   pub tells : ToldAs Tells outcome told
-  pub written : Result (Unit {0}) ProgramFault
-  pub unwritten : IfErr written (λ f. f ≡ fault.Write)
-  pub ends : r ≡ ended told (told_as of_program written)
+  pub written : Result (Unit {0}) F
+  pub unwritten : IfErr written (λ f. f ≡ of_program fault.Write)
+  pub ends : r ≡ ended told written
+
+-- The same of a command that is left with its writer: nothing stands in its buffer any more where the command is done.
+pub record EndsWith {X E F W : Type 0} (contents : W → Option (List ℕ)) (Tells : E → F → Type 0) (of_program : ProgramFault → F) (Works : Option (List ℕ) → Result X E → Type 0) (r : Result Status F × BufWriter W Global) : Type 0 where
+  pub ends : Ends Tells of_program Works (writer_contents contents r.1) r.0
+  pub empty : OnOk r.0 (writer_buffer r.1 ≡ [])
+
+-- How a command ends whose work was told so, when the last of its output still stood in this writer's buffer.
+pub record Finishes {F W : Type 0} (contents : W → Option (List ℕ)) (told : Result (Unit {0}) F) (unwritten : F) (writer : BufWriter W Global) (r : Result Status F × BufWriter W Global) : Type 0 where
+  pub written : Result (Unit {0}) F
+  pub fails : IfErr written (λ f. f ≡ unwritten)
+  pub ends : r.0 ≡ ended told written
+  pub kept : Keeps (writer_contents contents writer) (writer_contents contents r.1)
+  pub empty : OnOk r.0 (writer_buffer r.1 ≡ [])
 
 -- how a command may end that works through a buffer: done, by what its work told, or by one of two faults of any command
 abbrev pub EndsBy : {E F : Type 0} → (Tells : E → F → Type 0) → (of_program : ProgramFault → F) → Result Status F → Type 0

@@ -7,15 +7,15 @@
 //! - `ProgramFault::status`, `answer`: the exit status of the faults that any command may meet, and
 //!   of what `clap` answers, by the table `specs/Endings.antt`. A failed write is told only of a
 //!   text that was asked for.
-//! - `ended`: a fault of the work of a command comes first, then a failed write; else it is done.
 //! - `words`: its fault is a word that is no text, or want of memory, and never a failed write.
 //! - `hold_closed`: what is held has the number of a standard stream.
 //! - `open`: its fault is that the file cannot be opened, or want of memory.
 //! - `buffered_reader`, `buffered_writer`: the stream behind an empty buffer of 8,192 bytes, or
 //!   want of memory.
 //! - `Outlet` writes what is written to it to its writer, and nothing else.
-//! - `write_out`: the buffer is empty, and of a writer that tells its bytes all is written; or a
-//!   write failed, and none is lost or comes twice.
+//! - `finish`: a fault of the work of a command comes first, then that its output could not be
+//!   written out; else it is done, and its buffer is empty. Of a writer that tells its bytes all is
+//!   written, or a write failed, and none is lost or comes twice.
 #![tactic(auto)]
 
 mod closed;
@@ -29,5 +29,5 @@ pub use closed::hold_closed;
 pub use file::open;
 pub use outlet::Outlet;
 pub use program::{answer, words};
-pub use status::{ProgramFault, Status, ended};
-pub use streams::{buffered_reader, buffered_writer, write_out};
+pub use status::{ProgramFault, Status};
+pub use streams::{buffered_reader, buffered_writer, finish};

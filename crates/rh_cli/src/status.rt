@@ -59,7 +59,7 @@ impl ProgramFault {
 
 /// How a command ends whose work came to the one, and the writing out of what it had left in a
 /// buffer to the other.
-pub fn ended<E: Drop>(told: Result<(), E>, written: Result<(), E>) -> Result<Status, E>
+pub(crate) fn ended<E: Drop>(told: Result<(), E>, written: Result<(), E>) -> Result<Status, E>
     ensures { result ≡ ended told written }
 {
     match told {

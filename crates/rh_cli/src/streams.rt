@@ -1,11 +1,11 @@
 //! The streams of a program, each behind a buffer.
 
-ghost use Rattle.std.specs.Prelude.{◌≡◌, [], IfOk, IfErr, OnOk};
+ghost use Rattle.std.specs.Prelude.{◌≡◌, [], IfOk, IfErr};
 ghost use Rattle.std.specs.Io.Buffered.{reader_buffer, reader_capacity, reader_inner};
-ghost use Rattle.std.specs.Io.Buffered.{writer_buffer, writer_capacity, writer_contents, writer_inner};
-ghost use Rattle.std.specs.Io.KnownBytes.{Keeps};
+ghost use Rattle.std.specs.Io.Buffered.{writer_buffer, writer_capacity, writer_inner};
+ghost use Rattle.rh_cli.specs.Endings.{Finishes};
 
-use crate::status::ProgramFault;
+use crate::status::{ProgramFault, Status, ended};
 use std::alloc::Global;
 use std::io::{BufReader, BufWriter, Read, Write};
 
@@ -41,15 +41,19 @@ pub fn buffered_writer<W: Write + Drop>(
     }
 }
 
-/// Writes out what the buffer still holds.
-pub fn write_out<W: Write + Drop>(writer: &mut BufWriter<W>) -> Result<(), ProgramFault>
-    ensures bytes { Keeps (writer_contents W.contents writer.old)
-        (writer_contents W.contents writer.new) }
-    ensures empty { OnOk result (writer_buffer writer.new ≡ []) }
-    ensures fault { IfErr result (λ fault. fault ≡ ProgramFault.Write) }
+/// How a command ends whose work was told so. What the buffer still holds is written out, whatever
+/// was told; that this failed is told as `unwritten`, behind a fault of the work.
+pub fn finish<F: Drop, W: Write + Drop>(
+    told: Result<(), F>,
+    writer: BufWriter<W>,
+    unwritten: F,
+) -> (Result<Status, F>, BufWriter<W>)
+    ensures { Finishes W.contents told unwritten writer result }
 {
-    match writer.flush() {
+    let mut writer = writer;
+    let written = match writer.flush() {
         Ok(()) => Ok(()),
-        Err(_) => Err(ProgramFault::Write),
-    }
+        Err(_) => Err(unwritten),
+    };
+    (ended(told, written), writer)
 }

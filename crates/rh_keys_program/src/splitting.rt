@@ -1,10 +1,10 @@
 //! The command `split`, between real files and streams.
 
-ghost use Rattle.std.specs.Prelude.{◌≡◌, ◌≤◌, ◌<◌, ⊤, [], IfErr, IfOk, IfSome, Ok, OnOk};
+ghost use Rattle.std.specs.Prelude.{◌≡◌, ◌≤◌, ◌<◌, ⊤, IfErr, IfOk, IfSome, Ok};
 ghost use Rattle.std.specs.Prelude.{length, true};
-ghost use Rattle.std.specs.Io.Buffered.{writer_buffer, writer_contents};
+ghost use Rattle.std.specs.Io.Buffered.{writer_contents};
 ghost use Rattle.rh_bytes.specs.Counting.{Writes};
-ghost use Rattle.rh_cli.specs.Endings.{Ends, EndsBy, told_as};
+ghost use Rattle.rh_cli.specs.Endings.{EndsBy, EndsWith, told_as};
 ghost use Rattle.rh_parts.specs.declared.part.TheConstants.{MAX_PARTS};
 ghost use Rattle.rh_splitting.specs.Name.{is_name};
 ghost use Rattle.rh_splitting.specs.Plan.{plan_text};
@@ -12,9 +12,9 @@ ghost use Rattle.rh_keys_program.specs.Told.{TellsNoSize, TellsPlan, TellsSplit}
 ghost use Rattle.rh_keys_program.specs.Told.{fault_of_split, parts_of};
 
 use crate::lists::size_of;
-use crate::status::{Fault, writing};
+use crate::status::Fault;
 use rh_bytes::{Counted, WriteFault};
-use rh_cli::{Outlet, ProgramFault, Status, buffered_writer, ended, write_out};
+use rh_cli::{Outlet, ProgramFault, Status, buffered_writer, finish};
 use rh_splitting::{
     FilesFault, Part, PartFiles, Source, SplitFault, counting_parts, parts_chosen, split_source,
     try_source, write_plan,
@@ -134,16 +134,17 @@ fn tell_plan<P, W: Write + Drop>(
     writer: BufWriter<W>,
 ) -> (Result<Status, Fault>, BufWriter<W>)
     requires { length parts.now ≤ MAX_PARTS }
-    ensures ends { Ends {X = ⊤} TellsPlan Fault.Program
+    ensures { EndsWith {X = ⊤} W.contents TellsPlan Fault.Program
         (λ out r. Writes (writer_contents W.contents writer) out (plan_text parts.now) r)
-        (writer_contents W.contents result.1) result.0 }
-    ensures empty { OnOk result.0 (writer_buffer result.1 ≡ []) }
+        result }
 {
     let mut writer = Counted::new(writer);
     let planned = write_plan(parts, &mut writer);
-    let mut writer = writer.into_inner();
-    let written = write_out(&mut writer);
-    (ended(planning(planned), writing(written)), writer)
+    finish(
+        planning(planned),
+        writer.into_inner(),
+        Fault::Program(ProgramFault::Write),
+    )
 }
 
 /// What came of the writing of a plan, told as by the program.

@@ -189,13 +189,3 @@ pub(crate) fn listing_held(outcome: Result<(), HeldFault>) -> Result<(), Fault>
         Err(fault) => Err(Fault::Held(fault)),
     }
 }
-
-/// The same of the writing out of a buffer.
-pub(crate) fn writing(outcome: Result<(), ProgramFault>) -> Result<(), Fault>
-    ensures { result ≡ told_as Fault.Program outcome }
-{
-    match outcome {
-        Ok(()) => Ok(()),
-        Err(fault) => Err(Fault::Program(fault)),
-    }
-}

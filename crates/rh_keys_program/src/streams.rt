@@ -1,18 +1,18 @@
 //! The commands `pack` and `list`, between real files and streams.
 
-ghost use Rattle.std.specs.Prelude.{◌≡◌, ◌<◌, ⊤, [], IfErr, OnOk, length, map, string_bytes};
-ghost use Rattle.std.specs.Io.Buffered.{writer_buffer, writer_contents};
+ghost use Rattle.std.specs.Prelude.{◌≡◌, ◌<◌, ⊤, IfErr, length, map, string_bytes};
+ghost use Rattle.std.specs.Io.Buffered.{writer_contents};
 ghost use Rattle.rh_bytes.specs.Counting.{inner_of};
-ghost use Rattle.rh_cli.specs.Endings.{Ends, EndsBy, ToldAs};
+ghost use Rattle.rh_cli.specs.Endings.{EndsBy, EndsWith, ToldAs};
 ghost use Rattle.rh_key_texts.specs.Files.{ListsFiles};
 ghost use Rattle.rh_key_texts.specs.List.{Lists, ListsHeld};
 ghost use Rattle.rh_key_texts.specs.Pack.{Packs};
 ghost use Rattle.rh_keys_program.specs.Endings.{ending_by, ending_by_file};
 ghost use Rattle.rh_keys_program.specs.Told.{TellsFileAt};
 
-use crate::status::{Fault, listing, listing_held, packing, writing};
+use crate::status::{Fault, listing, listing_held, packing};
 use rh_bytes::Counted;
-use rh_cli::{Outlet, ProgramFault, Status, buffered_reader, buffered_writer, ended, write_out};
+use rh_cli::{Outlet, ProgramFault, Status, buffered_reader, buffered_writer, finish};
 use rh_key_files::KeyFault;
 use rh_key_texts::{FaultAt, FileFault, Form, list_files, list_keys, list_snapshot, pack};
 use rh_shelf::{CountedShelf, FileShelf, Lender, ShelfFault};
@@ -41,17 +41,18 @@ fn pack_out<R: Read, W: Write + Drop>(
     reader: &mut Counted<R>,
     writer: BufWriter<W>,
 ) -> (Result<Status, Fault>, BufWriter<W>)
-    ensures ends { Ends {X = ⊤} (λ f told. told ≡ Fault.Pack f) Fault.Program
+    ensures { EndsWith {X = ⊤} W.contents (λ f told. told ≡ Fault.Pack f) Fault.Program
         (λ out r. Packs (R.remaining (inner_of reader.old)) (R.remaining (inner_of reader.new))
         (writer_contents W.contents writer) out r)
-        (writer_contents W.contents result.1) result.0 }
-    ensures empty { OnOk result.0 (writer_buffer result.1 ≡ []) }
+        result }
 {
     let mut writer = Counted::new(writer);
     let packed = pack(alloc, reader, &mut writer);
-    let mut writer = writer.into_inner();
-    let written = write_out(&mut writer);
-    (ended(packing(packed), writing(written)), writer)
+    finish(
+        packing(packed),
+        writer.into_inner(),
+        Fault::Program(ProgramFault::Write),
+    )
 }
 
 /// Lists what stands on standard input to standard output.
@@ -86,17 +87,18 @@ fn list_out<R: Read, W: Write + Drop>(
     reader: &mut Counted<R>,
     writer: BufWriter<W>,
 ) -> (Result<Status, Fault>, BufWriter<W>)
-    ensures ends { Ends {X = ⊤} (λ f told. told ≡ Fault.List f) Fault.Program
+    ensures { EndsWith {X = ⊤} W.contents (λ f told. told ≡ Fault.List f) Fault.Program
         (λ out r. Lists (R.remaining (inner_of reader.old)) (R.remaining (inner_of reader.new))
         (writer_contents W.contents writer) out r)
-        (writer_contents W.contents result.1) result.0 }
-    ensures empty { OnOk result.0 (writer_buffer result.1 ≡ []) }
+        result }
 {
     let mut writer = Counted::new(writer);
     let listed = list_keys(alloc, reader, &mut writer);
-    let mut writer = writer.into_inner();
-    let written = write_out(&mut writer);
-    (ended(listing(listed), writing(written)), writer)
+    finish(
+        listing(listed),
+        writer.into_inner(),
+        Fault::Program(ProgramFault::Write),
+    )
 }
 
 /// The same of a snapshot.
@@ -105,17 +107,18 @@ fn list_held_out<R: Read, W: Write + Drop>(
     reader: &mut Counted<R>,
     writer: BufWriter<W>,
 ) -> (Result<Status, Fault>, BufWriter<W>)
-    ensures ends { Ends {X = ⊤} (λ f told. told ≡ Fault.Held f) Fault.Program
+    ensures { EndsWith {X = ⊤} W.contents (λ f told. told ≡ Fault.Held f) Fault.Program
         (λ out r. ListsHeld (R.remaining (inner_of reader.old)) (R.remaining (inner_of reader.new))
         (writer_contents W.contents writer) out r)
-        (writer_contents W.contents result.1) result.0 }
-    ensures empty { OnOk result.0 (writer_buffer result.1 ≡ []) }
+        result }
 {
     let mut writer = Counted::new(writer);
     let listed = list_snapshot(alloc, reader, &mut writer);
-    let mut writer = writer.into_inner();
-    let written = write_out(&mut writer);
-    (ended(listing_held(listed), writing(written)), writer)
+    finish(
+        listing_held(listed),
+        writer.into_inner(),
+        Fault::Program(ProgramFault::Write),
+    )
 }
 
 /// Lists the files at these paths to standard output, one after the other. It goes through a
@@ -145,19 +148,17 @@ fn list_files_out<S: Lender, W: Write + Drop>(
     form: Form,
     writer: BufWriter<W>,
 ) -> (Result<Status, Fault>, BufWriter<W>)
-    ensures ends { Ends {X = ⊤} (TellsFileAt (map string_bytes paths.items)) Fault.Program
+    ensures { EndsWith {X = ⊤} W.contents (TellsFileAt (map string_bytes paths.items)) Fault.Program
         (λ out r. ListsFiles (S.state shelf.old).files form (map string_bytes paths.items)
         (writer_contents W.contents writer) out r)
-        (writer_contents W.contents result.1) result.0 }
-    ensures empty { OnOk result.0 (writer_buffer result.1 ≡ []) }
+        result }
 {
     let mut writer = Counted::new(writer);
     let listed = list_files(alloc, shelf, &paths, form, &mut writer);
-    let mut writer = writer.into_inner();
-    let written = write_out(&mut writer);
-    (
-        ended(listing_files(paths, listed), writing(written)),
-        writer,
+    finish(
+        listing_files(paths, listed),
+        writer.into_inner(),
+        Fault::Program(ProgramFault::Write),
     )
 }
 

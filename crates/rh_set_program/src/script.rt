@@ -13,9 +13,9 @@ ghost use Rattle.rh_shelf.specs.Shelf.{Files as OfShelf};
 ghost use Rattle.rh_set_program.specs.Scripts.{EndsScript, TellsScript, cause_told};
 ghost use Rattle.rh_set_program.specs.declared.script.TheConstants.{MAX_BYTES};
 
-use crate::status::{Fault, running, writing};
+use crate::status::{Fault, running};
 use rh_bytes::{Counted, fill};
-use rh_cli::{ProgramFault, Status, buffered_writer, ended, open, write_out};
+use rh_cli::{ProgramFault, Status, buffered_writer, finish, open};
 use rh_runner::Runner;
 use rh_script::{MAX_LINE_BYTES, MAX_LINES, Script, parse};
 use rh_script_run::run;
@@ -81,9 +81,11 @@ fn run_out<T: Threads + Wait + Sync, S: Lender, N: Runner, W: Write + Drop>(
 {
     let mut writer = Counted::new(writer);
     let outcome = run(rt, alloc, script, shelf, runner, &mut writer);
-    let mut writer = writer.into_inner();
-    let written = write_out(&mut writer);
-    (ended(running(outcome), writing(written)), writer)
+    finish(
+        running(outcome),
+        writer.into_inner(),
+        Fault::Program(ProgramFault::Write),
+    )
 }
 
 /// The script that the reader has.

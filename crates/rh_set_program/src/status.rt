@@ -102,13 +102,3 @@ pub(crate) fn running(outcome: Result<Report, RunFault>) -> Result<(), Fault>
         Err(fault) => Err(Fault::Run(fault)),
     }
 }
-
-/// The same of the writing out of a buffer.
-pub(crate) fn writing(outcome: Result<(), ProgramFault>) -> Result<(), Fault>
-    ensures { result ≡ told_as Fault.Program outcome }
-{
-    match outcome {
-        Ok(()) => Ok(()),
-        Err(fault) => Err(Fault::Program(fault)),
-    }
-}

@@ -1,15 +1,15 @@
 //! The commands without a script, between real streams.
 
-ghost use Rattle.std.specs.Prelude.{◌≡◌, ◌⊎◌, ⊤, [], Err, OnOk};
-ghost use Rattle.std.specs.Io.Buffered.{writer_buffer, writer_contents};
+ghost use Rattle.std.specs.Prelude.{◌≡◌, ◌⊎◌, ⊤, Err};
+ghost use Rattle.std.specs.Io.Buffered.{writer_contents};
 ghost use Rattle.rh_bytes.specs.Counting.{inner_of};
-ghost use Rattle.rh_cli.specs.Endings.{Ends, EndsBy};
+ghost use Rattle.rh_cli.specs.Endings.{EndsBy, EndsWith};
 ghost use Rattle.rh_commands.specs.Check.{Checks};
 ghost use Rattle.rh_commands.specs.Dump.{Dumps};
 
-use crate::status::{Fault, checking, dumping, writing};
+use crate::status::{Fault, checking, dumping};
 use rh_bytes::Counted;
-use rh_cli::{ProgramFault, Status, buffered_reader, buffered_writer, ended, open, write_out};
+use rh_cli::{ProgramFault, Status, buffered_reader, buffered_writer, finish, open};
 use rh_commands::{check_snapshot, dump_keys};
 use std::alloc::Global;
 use std::fs::Files;
@@ -36,17 +36,18 @@ fn dump_out<R: Read, W: Write + Drop>(
     reader: &mut Counted<R>,
     writer: BufWriter<W>,
 ) -> (Result<Status, Fault>, BufWriter<W>)
-    ensures ends { Ends {X = ⊤} (λ f told. told ≡ Fault.Dump f) Fault.Program
+    ensures { EndsWith {X = ⊤} W.contents (λ f told. told ≡ Fault.Dump f) Fault.Program
         (λ out r. Dumps (R.remaining (inner_of reader.old)) (R.remaining (inner_of reader.new))
         (writer_contents W.contents writer) out r)
-        (writer_contents W.contents result.1) result.0 }
-    ensures empty { OnOk result.0 (writer_buffer result.1 ≡ []) }
+        result }
 {
     let mut writer = Counted::new(writer);
     let dumped = dump_keys(alloc, reader, &mut writer);
-    let mut writer = writer.into_inner();
-    let written = write_out(&mut writer);
-    (ended(dumping(dumped), writing(written)), writer)
+    finish(
+        dumping(dumped),
+        writer.into_inner(),
+        Fault::Program(ProgramFault::Write),
+    )
 }
 
 /// Writes the line of the snapshot at the path to standard output.
@@ -76,15 +77,16 @@ fn check_out<R: Read, W: Write + Drop>(
     reader: &mut Counted<R>,
     writer: BufWriter<W>,
 ) -> (Result<Status, Fault>, BufWriter<W>)
-    ensures ends { Ends {X = ⊤} (λ f told. told ≡ Fault.Check f) Fault.Program
+    ensures { EndsWith {X = ⊤} W.contents (λ f told. told ≡ Fault.Check f) Fault.Program
         (λ out r. Checks (R.remaining (inner_of reader.old)) (R.remaining (inner_of reader.new))
         (writer_contents W.contents writer) out r)
-        (writer_contents W.contents result.1) result.0 }
-    ensures empty { OnOk result.0 (writer_buffer result.1 ≡ []) }
+        result }
 {
     let mut writer = Counted::new(writer);
     let checked = check_snapshot(alloc, reader, &mut writer);
-    let mut writer = writer.into_inner();
-    let written = write_out(&mut writer);
-    (ended(checking(checked), writing(written)), writer)
+    finish(
+        checking(checked),
+        writer.into_inner(),
+        Fault::Program(ProgramFault::Write),
+    )
 }

@@ -67,13 +67,3 @@ pub fn drawing(outcome: Result<(), DrawFault>) -> Result<(), Fault>
         Err(fault) => Err(Fault::Draw(fault)),
     }
 }
-
-/// The same of the writing out of a buffer.
-pub fn writing(outcome: Result<(), ProgramFault>) -> Result<(), Fault>
-    ensures { result ≡ told_as Fault.Program outcome }
-{
-    match outcome {
-        Ok(()) => Ok(()),
-        Err(fault) => Err(Fault::Program(fault)),
-    }
-}

@@ -1,17 +1,17 @@
 //! The commands on plays, between real files and streams.
 
-ghost use Rattle.std.specs.Prelude.{◌≡◌, ◌⊎◌, ⊤, ◌≤◌, [], Err, IfErr, IfSome, OnOk};
-ghost use Rattle.std.specs.Io.Buffered.{writer_buffer, writer_contents};
+ghost use Rattle.std.specs.Prelude.{◌≡◌, ◌⊎◌, ⊤, ◌≤◌, Err, IfErr, IfSome};
+ghost use Rattle.std.specs.Io.Buffered.{writer_contents};
 ghost use Rattle.rh_bytes.specs.Counting.{inner_of};
-ghost use Rattle.rh_cli.specs.Endings.{Ends, EndsBy};
+ghost use Rattle.rh_cli.specs.Endings.{EndsBy, EndsWith};
 ghost use Rattle.rh_draw.specs.declared.limits.TheConstants.{MAX_STEPS};
 ghost use Rattle.rh_play_run.specs.Drawing.{Draws};
 ghost use Rattle.rh_play_run.specs.Run.{RunsPlay};
 ghost use Rattle.rhplay.specs.Endings.{steps_asked};
 
-use crate::status::{Fault, drawing, playing, writing};
+use crate::status::{Fault, drawing, playing};
 use rh_bytes::Counted;
-use rh_cli::{ProgramFault, Status, buffered_reader, buffered_writer, ended, open, write_out};
+use rh_cli::{ProgramFault, Status, buffered_reader, buffered_writer, finish, open};
 use rh_play_run::{Telling, draw_play, tell_play};
 use std::alloc::Global;
 use std::fs::Files;
@@ -43,17 +43,18 @@ fn play_out<R: Read, W: Write + Drop>(
     reader: &mut Counted<R>,
     writer: BufWriter<W>,
 ) -> (Result<Status, Fault>, BufWriter<W>)
-    ensures ends { Ends {X = ⊤} (λ f told. told ≡ Fault.Play f) Fault.Program
+    ensures { EndsWith {X = ⊤} W.contents (λ f told. told ≡ Fault.Play f) Fault.Program
         (λ out r. RunsPlay telling (R.remaining (inner_of reader.old))
         (writer_contents W.contents writer) out r)
-        (writer_contents W.contents result.1) result.0 }
-    ensures empty { OnOk result.0 (writer_buffer result.1 ≡ []) }
+        result }
 {
     let mut writer = Counted::new(writer);
     let told = tell_play(alloc, telling, reader, &mut writer);
-    let mut writer = writer.into_inner();
-    let written = write_out(&mut writer);
-    (ended(playing(told), writing(written)), writer)
+    finish(
+        playing(told),
+        writer.into_inner(),
+        Fault::Program(ProgramFault::Write),
+    )
 }
 
 /// Draws the play at the path: so many steps from this number on, where 0 stands for all.
@@ -87,17 +88,18 @@ fn draw_out<R: Read, W: Write + Drop>(
     writer: BufWriter<W>,
 ) -> (Result<Status, Fault>, BufWriter<W>)
     requires { IfSome steps (λ n. n ≤ MAX_STEPS) }
-    ensures ends { Ends {X = ⊤} (λ f told. told ≡ Fault.Draw f) Fault.Program
+    ensures { EndsWith {X = ⊤} W.contents (λ f told. told ≡ Fault.Draw f) Fault.Program
         (λ out r. Draws from steps (R.remaining (inner_of reader.old))
         (writer_contents W.contents writer) out r)
-        (writer_contents W.contents result.1) result.0 }
-    ensures empty { OnOk result.0 (writer_buffer result.1 ≡ []) }
+        result }
 {
     let mut writer = Counted::new(writer);
     let drawn = draw_play(alloc, from, steps, reader, &mut writer);
-    let mut writer = writer.into_inner();
-    let written = write_out(&mut writer);
-    (ended(drawing(drawn), writing(written)), writer)
+    finish(
+        drawing(drawn),
+        writer.into_inner(),
+        Fault::Program(ProgramFault::Write),
+    )
 }
 
 /// The number of steps that is asked for, if it is.

@@ -3,12 +3,12 @@ use Rattle.std.specs.Io.Buffered.{writer_contents}
 use Rattle.rh_bytes.specs.Counting.{Writes, inner_of}
 use Rattle.rh_bytes.proofs.Writing.{emitted_text}
 use Rattle.rh_splitting.specs.Plan.{plan_text}
-use Rattle.rh_cli.proofs.EndingLemmas.{ends_after, told_as_tells}
+use Rattle.rh_cli.proofs.EndingLemmas.{ends_with, told_as_tells}
 use Rattle.rh_keys_program.proofs.splitting.tell_plan.Goals as goal
 
-pub returns-clause-ends : goal.returns-clause-ends
-returns-clause-ends g c =
+pub returns : goal.returns
+returns g c =
     let left = inner_of c.write_plan-planned.new.writer in
-    ends_after (writer_contents g.W.Write.contents) left c.into_inner-writer.result c.write_out-written.new.writer _ _ _ _ _
+    ends_with g.W.Write.contents left c.into_inner.result _ _ _
     (subst (λ w. Writes (writer_contents g.W.Write.contents w) (writer_contents g.W.Write.contents left) (plan_text c.args.parts.now) c.write_plan-planned.result) c.new-writer.ensures.inner (emitted_text _ _ _ _ _ c.write_plan-planned.ensures))
-    c.into_inner-writer.ensures c.write_out-written.ensures.bytes (told_as_tells _ _ _ c.planning.ensures) c.write_out-written.ensures.fault c.writing.ensures c.ended.ensures
+    c.into_inner.ensures (told_as_tells _ _ _ c.planning.ensures) c.finish.ensures

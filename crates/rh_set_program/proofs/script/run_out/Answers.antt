@@ -1,23 +1,22 @@
-use Rattle.std.proofs.Common.{subst, ap, ◌∙◌}
+use Rattle.std.proofs.Common.{subst}
 use Rattle.std.specs.Io.Buffered.{writer_contents}
 use Rattle.rh_bytes.specs.Counting.{inner_of}
 use Rattle.rh_script.specs.Script.{steps_of}
 use Rattle.rh_script_run.specs.Ends.{Ends as Means}
 use Rattle.rh_script_run.specs.Environment.{environment}
-use Rattle.rh_cli.specs.Endings.{ended}
-use Rattle.rh_cli.proofs.EndingLemmas.{ends_after, ends_by, told_as_tells}
+use Rattle.rh_cli.proofs.EndingLemmas.{ends_with, ends_by, told_as_tells}
 use Rattle.rh_set_program.proofs.script.run_out.Goals as goal
 
 pub returns-clause-ends : goal.returns-clause-ends
 returns-clause-ends g c files known =
     let left = inner_of c.run-outcome.new.writer in
-    ends_after (writer_contents g.W.Write.contents) left c.into_inner-writer.result c.write_out-written.new.writer _ _ _ _ _
+    (ends_with g.W.Write.contents left c.into_inner.result _ _ _
     (subst (λ w. Means files (steps_of c.args.script.now)
     (environment (g.S.Lender.state c.args.shelf.now) (g.N.Runner.refused_starts c.args.runner.now) (writer_contents g.W.Write.contents w))
     (environment (g.S.Lender.state c.run-outcome.new.shelf) (g.N.Runner.refused_starts c.run-outcome.new.runner) (writer_contents g.W.Write.contents left)) c.run-outcome.result)
     c.new-writer.ensures.inner (c.run-outcome.ensures.meant files known))
-    c.into_inner-writer.ensures c.write_out-written.ensures.bytes (told_as_tells _ _ _ c.running.ensures) c.write_out-written.ensures.fault c.writing.ensures c.ended.ensures
+    c.into_inner.ensures (told_as_tells _ _ _ c.running.ensures) c.finish.ensures).ends
 
 pub returns-clause-cases : goal.returns-clause-cases
 returns-clause-cases g c =
-    ends_by _ _ _ _ _ _ (told_as_tells _ _ _ c.running.ensures) c.write_out-written.ensures.fault (c.ended.ensures ∙ ap (ended c.running.result) c.writing.ensures)
+    let f = c.finish.ensures in ends_by _ _ _ _ _ _ (told_as_tells _ _ _ c.running.ensures) f.fails f.ends

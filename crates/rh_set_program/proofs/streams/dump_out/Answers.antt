@@ -2,12 +2,12 @@ use Rattle.std.proofs.Common.{subst}
 use Rattle.std.specs.Io.Buffered.{writer_contents}
 use Rattle.rh_bytes.specs.Counting.{inner_of}
 use Rattle.rh_commands.specs.Dump.{Dumps}
-use Rattle.rh_cli.proofs.EndingLemmas.{ends_after, told_as_tells}
+use Rattle.rh_cli.proofs.EndingLemmas.{ends_with, told_as_tells}
 use Rattle.rh_set_program.proofs.streams.dump_out.Goals as goal
 
-pub returns-clause-ends : goal.returns-clause-ends
-returns-clause-ends g c =
+pub returns : goal.returns
+returns g c =
     let left = inner_of c.dump_keys-dumped.new.writer in
-    ends_after (writer_contents g.W.Write.contents) left c.into_inner-writer.result c.write_out-written.new.writer _ _ _ _ _
+    ends_with g.W.Write.contents left c.into_inner.result _ _ _
     (subst (λ w. Dumps (g.R.Read.remaining (inner_of c.args.reader.now)) (g.R.Read.remaining (inner_of c.dump_keys-dumped.new.reader)) (writer_contents g.W.Write.contents w) (writer_contents g.W.Write.contents left) c.dump_keys-dumped.result) c.new-writer.ensures.inner c.dump_keys-dumped.ensures.dumped)
-    c.into_inner-writer.ensures c.write_out-written.ensures.bytes (told_as_tells _ _ _ c.dumping.ensures) c.write_out-written.ensures.fault c.writing.ensures c.ended.ensures
+    c.into_inner.ensures (told_as_tells _ _ _ c.dumping.ensures) c.finish.ensures
