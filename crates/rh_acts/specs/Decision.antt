@@ -1,5 +1,6 @@
 -- What a scan from a key's home on leads to.
 use Rattle.std.specs.Prelude.{ℕ, ◌^◌, ◌<◌, ◌≤◌, ◌⊎◌, List, length, slice_index, take}
+use Rattle.rh_layout.specs.Key.{IsBits, IsKey}
 use Rattle.rh_layout.specs.Round.{cell_ahead}
 use Rattle.rh_layout.specs.Order.{home_of}
 use Rattle.rh_probe.specs.Look.{Finds}
@@ -11,6 +12,14 @@ use Rattle.rh_acts.specs.declared.answer.Insertion.{Insertion}
 use Rattle.rh_acts.specs.declared.answer.Insertion.TheVariants as insertion
 use Rattle.rh_acts.specs.declared.answer.Removal.{Removal}
 use Rattle.rh_acts.specs.declared.answer.Removal.TheVariants as removal
+
+-- The key's act can be written from what was seen: no more than the table's cells, with room for new values and entries of each.
+pub record CanAct (b k : ℕ) (seen news : List ℕ) (entries : Act) : Type 0 where
+  pub bits : IsBits b
+  pub key : IsKey k
+  pub within : length seen ≤ 2 ^ b
+  pub new_room : length seen ≤ length news
+  pub entry_room : length seen ≤ length entries
 
 -- The key is there, or the first n entries put it into the first n offsets, or no offset shows where it goes, or none from
 -- there on is empty.

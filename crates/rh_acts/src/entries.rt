@@ -1,9 +1,9 @@
 //! The entries of a key's act, from what a scan has seen of the table.
 
 ghost use Rattle.std.specs.Prelude.{◌≡◌, ◌^◌, ◌<◌, ◌≤◌, length};
-ghost use Rattle.rh_layout.specs.Key.{IsBits, IsKey};
+ghost use Rattle.rh_layout.specs.Key.{IsBits};
 ghost use Rattle.rh_acts.specs.CellOrder.{entry_of, offset_at, IsInCellOrder};
-ghost use Rattle.rh_acts.specs.Decision.{Inserts, Removes};
+ghost use Rattle.rh_acts.specs.Decision.{CanAct, Inserts, Removes};
 
 use crate::answer::{Insertion, Removal};
 use rh_edit::{insert_news, remove_news};
@@ -20,11 +20,7 @@ pub fn insert_entries(
     news: &mut [u64],
     entries: &mut [Entry],
 ) -> Insertion
-    requires bits { IsBits bits }
-    requires key { IsKey key }
-    requires room { length seen.now ≤ 2 ^ bits }
-    requires news { length seen.now ≤ length news.old }
-    requires entries { length seen.now ≤ length entries.old }
+    requires { CanAct bits key seen.now news.old entries.old }
     ensures { Inserts bits key seen.now entries.new result }
 {
     let at = match look(bits, key, seen) {
@@ -57,11 +53,7 @@ pub fn remove_entries(
     news: &mut [u64],
     entries: &mut [Entry],
 ) -> Removal
-    requires bits { IsBits bits }
-    requires key { IsKey key }
-    requires room { length seen.now ≤ 2 ^ bits }
-    requires news { length seen.now ≤ length news.old }
-    requires entries { length seen.now ≤ length entries.old }
+    requires { CanAct bits key seen.now news.old entries.old }
     ensures { Removes bits key seen.now entries.new result }
 {
     let first = home(bits, key);

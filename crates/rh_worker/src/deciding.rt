@@ -1,6 +1,7 @@
 //! What the cells from a key's home on lead to, and the entries of the key's act.
 
-ghost use Rattle.std.specs.Prelude.{◌≡◌, ◌^◌, ◌≤◌, ◌++◌, ℕ, List, drop, length, map, slice_index, take};
+ghost use Rattle.std.specs.Prelude.{◌≡◌, ◌≤◌, ◌++◌, ℕ, List, drop, length, map, slice_index, take};
+ghost use Rattle.rh_acts.specs.Decision.{CanAct};
 ghost use Rattle.rh_layout.specs.Key.{IsBits, IsKey};
 ghost use Rattle.rh_layout.specs.declared.entry.Entry.{Entry};
 ghost use Rattle.rh_tagword.specs.Word.{IsValue};
@@ -37,12 +38,8 @@ pub fn decide(
     news: &mut [u64],
     entries: &mut [Entry],
 ) -> Decision
-    requires bits { IsBits bits }
-    requires key { IsKey key }
+    requires can { CanAct bits key seen.now news.old entries.old }
     requires values { (p : ℕ) → IsValue (slice_index seen.now p) }
-    requires room { length seen.now ≤ 2 ^ bits }
-    requires news { length seen.now ≤ length news.old }
-    requires entries { length seen.now ≤ length entries.old }
     ensures { Decides kind bits key seen.now entries.new result }
 {
     match kind {
@@ -53,12 +50,8 @@ pub fn decide(
 }
 
 fn insertion(bits: u32, key: u64, seen: &[u64], news: &mut [u64], entries: &mut [Entry]) -> Decision
-    requires bits { IsBits bits }
-    requires key { IsKey key }
+    requires can { CanAct bits key seen.now news.old entries.old }
     requires values { (p : ℕ) → IsValue (slice_index seen.now p) }
-    requires room { length seen.now ≤ 2 ^ bits }
-    requires news { length seen.now ≤ length news.old }
-    requires entries { length seen.now ≤ length entries.old }
     ensures { Decides Insert bits key seen.now entries.new result }
 {
     match insert_entries(bits, key, seen, news, entries) {
@@ -69,12 +62,8 @@ fn insertion(bits: u32, key: u64, seen: &[u64], news: &mut [u64], entries: &mut 
 }
 
 fn removal(bits: u32, key: u64, seen: &[u64], news: &mut [u64], entries: &mut [Entry]) -> Decision
-    requires bits { IsBits bits }
-    requires key { IsKey key }
+    requires can { CanAct bits key seen.now news.old entries.old }
     requires values { (p : ℕ) → IsValue (slice_index seen.now p) }
-    requires room { length seen.now ≤ 2 ^ bits }
-    requires news { length seen.now ≤ length news.old }
-    requires entries { length seen.now ≤ length entries.old }
     ensures { Decides Remove bits key seen.now entries.new result }
 {
     match remove_entries(bits, key, seen, news, entries) {

@@ -7,7 +7,7 @@ use Rattle.rh_acts.proofs.entries.remove_entries.Goals as goal
 pub returns-in-Goes : goal.returns-in-Goes
 returns-in-Goes c =
     absence_written c.args.bits c.args.key c.in-Goes.at c.home-first.result c.args.seen.now c.write_entries.new.entries (drop (c.in-Goes.at + 1) c.args.entries.now)
-    c.requires.bits c.requires.room c.in-Goes.ensures c.home-first.ensures.value c.write_entries.ensures
+    c.requires.bits c.requires.within c.in-Goes.ensures c.home-first.ensures.value c.write_entries.ensures
 
 pub returns-in_default : goal.returns-in_default
 returns-in_default c =
@@ -16,4 +16,4 @@ returns-in_default c =
 pub returns : goal.returns
 returns c =
     remove_written c.args.bits c.args.key c.in-Here.at c.in-Some.last c.home-first.result c.args.seen.now c.remove_news.new.news (drop (c.in-Some.last + 1) c.args.news.now) c.write_entries-2.new.entries (drop (c.in-Some.last + 1) c.args.entries.now)
-    c.requires.bits c.requires.room c.in-Here.ensures c.in-Some.ensures c.home-first.ensures.value c.remove_news.ensures c.write_entries-2.ensures
+    c.requires.bits c.requires.within c.in-Here.ensures c.in-Some.ensures c.home-first.ensures.value c.remove_news.ensures c.write_entries-2.ensures
