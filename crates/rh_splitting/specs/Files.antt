@@ -1,5 +1,7 @@
 -- The key files of the parts: how far they are.
-use Rattle.std.specs.Prelude.{ℕ, length}
+use Rattle.std.specs.Prelude.{◌≡◌, ℕ, ◌+◌, length, Result, IfErr, OnOk}
+use Rattle.rh_splitting.specs.IntoFiles.{IsOfFiles}
+use Rattle.rh_splitting.specs.declared.fault.FilesFault.{FilesFault}
 use Rattle.rh_splitting.specs.declared.files.PartFiles.{PartFiles}
 
 -- how many files were made and not removed again
@@ -13,3 +15,10 @@ whole_of files = files.whole
 -- how many of them stand at their places
 abbrev pub placed_of : {F : Type 0} → PartFiles F → ℕ
 placed_of files = files.placed
+
+-- So many more files are made; how many are whole, and stand at their places, stays. Where it failed that is no fault of the list.
+pub record MakesFiles {F T : Type 0} (n : ℕ) (old new : PartFiles F) (r : Result T FilesFault) : Type 0 where
+  pub made : OnOk r (made_of new ≡ made_of old + n)
+  pub whole : whole_of new ≡ whole_of old
+  pub placed : placed_of new ≡ placed_of old
+  pub fault : IfErr r IsOfFiles

@@ -78,9 +78,9 @@ impl<F: Files> PartFiles<'_, F> {
     ghost use Rattle.rh_bytes.specs.Counting.{Counts, inner_of};
     ghost use Rattle.rh_key_files.specs.Reading.{BeginsWithHeader, TakesGoodKeys, header_at};
     ghost use Rattle.rh_parts.specs.declared.part.TheConstants.{MAX_PARTS};
-    ghost use Rattle.rh_splitting.specs.IntoFiles.{IsOfFiles, IsOfWriting};
+    ghost use Rattle.rh_splitting.specs.IntoFiles.{IsOfWriting};
     ghost use Rattle.rh_splitting.specs.IntoFiles.{SplitsList, told_of_list};
-    ghost use Rattle.rh_splitting.specs.Files.{made_of, placed_of, whole_of};
+    ghost use Rattle.rh_splitting.specs.Files.{MakesFiles, made_of, placed_of, whole_of};
     ghost use Rattle.rh_splitting.specs.Name.{is_name};
     ghost use Rattle.rh_splitting.specs.Parts.{IsBegun};
     ghost use Rattle.rh_splitting.specs.Splitting.{NoReadFailedOf, TakesOfSource, unread};
@@ -161,12 +161,9 @@ impl<F: Files> PartFiles<'_, F> {
     /// Makes the files of all parts.
     fn begin_all(&mut self, alloc: Global, count: u64, name: &str) -> Result<Parts<F>, FilesFault>
         requires { made_of self.old ≡ 0 }
-        ensures made { OnOk result (made_of self.new ≡ count) }
-        ensures whole { whole_of self.new ≡ whole_of self.old }
-        ensures placed { placed_of self.new ≡ placed_of self.old }
+        ensures makes { MakesFiles count self.old self.new result }
         ensures parts { IfOk result (λ parts. length parts.items ≡ count) }
         ensures begun { IfOk result (λ parts. All IsBegun parts.items) }
-        ensures fault { IfErr result IsOfFiles }
     {
         let mut parts = Vec::new(alloc);
         for number in 0..count {
@@ -185,11 +182,8 @@ impl<F: Files> PartFiles<'_, F> {
         number: u64,
         name: &str,
     ) -> Result<Part<BufWriter<F::File>>, FilesFault>
-        ensures made { OnOk result (made_of self.new ≡ made_of self.old + 1) }
-        ensures whole { whole_of self.new ≡ whole_of self.old }
-        ensures placed { placed_of self.new ≡ placed_of self.old }
+        ensures makes { MakesFiles 1 self.old self.new result }
         ensures begun { IfOk result IsBegun }
-        ensures fault { IfErr result IsOfFiles }
     {
         let file = self.create(alloc, number, name)?;
         let Ok(writer) = BufWriter::new(alloc, file) else {
@@ -221,10 +215,7 @@ impl<F: Files> PartFiles<'_, F> {
 
     /// Makes the file of a part, beside its place, and its folder where that is not there.
     fn create(&mut self, alloc: Global, part: u64, name: &str) -> Result<F::File, FilesFault>
-        ensures made { OnOk result (made_of self.new ≡ made_of self.old + 1) }
-        ensures whole { whole_of self.new ≡ whole_of self.old }
-        ensures placed { placed_of self.new ≡ placed_of self.old }
-        ensures fault { IfErr result IsOfFiles }
+        ensures { MakesFiles 1 self.old self.new result }
     {
         make_folder(alloc, self.files, part)?;
         // What was made is always noted: there is room for it before.
@@ -244,10 +235,7 @@ impl<F: Files> PartFiles<'_, F> {
 
     /// Notes that the file was made, and gives it back.
     fn note(&mut self, named: PartFile, file: F::File) -> Result<F::File, FilesFault>
-        ensures made { OnOk result (made_of self.new ≡ made_of self.old + 1) }
-        ensures whole { whole_of self.new ≡ whole_of self.old }
-        ensures placed { placed_of self.new ≡ placed_of self.old }
-        ensures fault { IfErr result IsOfFiles }
+        ensures { MakesFiles 1 self.old self.new result }
     {
         match self.made.push(named) {
             Ok(()) => Ok(file),
