@@ -15,11 +15,17 @@ use std::alloc::Global;
 use std::sync::Wait;
 use std::thread::Threads;
 
-/// How many workers, and the rooms of each in a round.
+/// A table's bits and cells; how many workers have it, and the rooms of each in a round.
 #[derive(Clone, Copy)]
-struct Crew {
+struct Sizes {
+    bits: u32,
+    cells: usize,
     workers: usize,
     rooms: Rooms,
+    ghost bits_fit: { IsBits bits },
+    ghost all_cells: { cells ≡ 2 ^ bits },
+    ghost workers_fit: { IsWorkers workers },
+    ghost rooms_fit: { IsRooms bits rooms },
 }
 
 /// The keys lie below this one, so that many of them meet.
@@ -51,16 +57,16 @@ pub fn compare<R: Threads + Wait + Sync + AllocGlobal>(
 
 /// The usual rooms, or 1 to 3 descriptors and the fewest marks: then rows are used again and again,
 /// and rounds end for want of room.
-fn rooms(random: &mut Random, bits: u32, size: usize) -> Rooms
+fn rooms(random: &mut Random, bits: u32, cells: usize) -> Rooms
     requires bits { IsBits bits }
-    requires size { size ≡ 2 ^ bits }
+    requires cells { cells ≡ 2 ^ bits }
     ensures { IsRooms bits result }
 {
     match random.below(4) {
         0 => Rooms::usual(),
         descriptors => Rooms {
             descriptors,
-            marks: size as u64,
+            marks: cells as u64,
         },
     }
 }
@@ -71,18 +77,20 @@ fn one_phase<R: Threads + Wait + Sync>(
     alloc: Global,
     random: &mut Random,
     bits: u32,
-    size: usize,
+    cells: usize,
 ) -> Result<(), &'static str>
     requires bits { IsBits bits }
-    requires size { size ≡ 2 ^ bits }
-    requires some { 1 < size }
+    requires cells { cells ≡ 2 ^ bits }
+    requires some { 1 < cells }
 {
-    let crew = Crew {
+    let sizes = Sizes {
+        bits,
+        cells,
         workers: 2 + random.below(15) as usize,
-        rooms: rooms(random, bits, size),
+        rooms: rooms(random, bits, cells),
     };
     // (so the two lists have room together)
-    let half = size as u64 / 2;
+    let half = cells as u64 / 2;
     let (few, many) = (random.below(half), random.below(half));
     let (Ok(held), Ok(keys)) = (
         random.keys(alloc, few, KEYS),
@@ -91,9 +99,9 @@ fn one_phase<R: Threads + Wait + Sync>(
         return Err(NO_MEMORY);
     };
     match random.below(5) {
-        0 | 1 => change(rt, alloc, crew, Kind::Insert, bits, size, &held, &keys),
-        2 | 3 => change(rt, alloc, crew, Kind::Remove, bits, size, &held, &keys),
-        _ => look_up(rt, alloc, crew, bits, size, &held, &keys),
+        0 | 1 => change(rt, alloc, sizes, Kind::Insert, &held, &keys),
+        2 | 3 => change(rt, alloc, sizes, Kind::Remove, &held, &keys),
+        _ => look_up(rt, alloc, sizes, &held, &keys),
     }
 }
 
@@ -101,27 +109,19 @@ fn one_phase<R: Threads + Wait + Sync>(
 fn change<R: Threads + Wait + Sync>(
     rt: &R,
     alloc: Global,
-    crew: Crew,
+    sizes: Sizes,
     kind: Kind,
-    bits: u32,
-    size: usize,
     held: &[u64],
     keys: &[u64],
 ) -> Result<(), &'static str>
-    requires workers { IsWorkers crew.workers }
-    requires rooms { IsRooms bits crew.rooms }
-    requires kind { kind ≢ Kind.Ask }
-    requires bits { IsBits bits }
-    requires size { size ≡ 2 ^ bits }
+    requires { kind ≢ Kind.Ask }
 {
-    let (Some(one), Some(other)) = (
-        set_of(alloc, bits, size, held),
-        set_of(alloc, bits, size, held),
-    ) else {
+    let (Some(one), Some(other)) = (set_of(alloc, &sizes, held), set_of(alloc, &sizes, held)) else {
         return Err(NO_MEMORY);
     };
+    let bits = sizes.bits;
     let most = one.len().max(other.len());
-    if most + keys.len() >= size || keys.iter().any(|key| *key >= KEYS) {
+    if most + keys.len() >= sizes.cells || keys.iter().any(|key| *key >= KEYS) {
         return Err(NO_ROOM);
     }
     let (mut cells, mut others) = (one.into_cells(), other.into_cells());
@@ -131,14 +131,14 @@ fn change<R: Threads + Wait + Sync>(
     let told = change_with(
         rt,
         alloc,
-        crew.workers,
+        sizes.workers,
         kind,
         bits,
         &mut cells,
         keys,
         &OpenGate,
         &AllStart,
-        crew.rooms,
+        sizes.rooms,
     );
     let alone = Single.change(rt, alloc, kind, bits, &mut others, keys);
     if told != alone || cells.as_slice() != others.as_slice() {
@@ -151,20 +151,14 @@ fn change<R: Threads + Wait + Sync>(
 fn look_up<R: Threads + Wait + Sync>(
     rt: &R,
     alloc: Global,
-    crew: Crew,
-    bits: u32,
-    size: usize,
+    sizes: Sizes,
     held: &[u64],
     keys: &[u64],
-) -> Result<(), &'static str>
-    requires workers { IsWorkers crew.workers }
-    requires rooms { IsRooms bits crew.rooms }
-    requires bits { IsBits bits }
-    requires size { size ≡ 2 ^ bits }
-{
-    let Some(set) = set_of(alloc, bits, size, held) else {
+) -> Result<(), &'static str> {
+    let Some(set) = set_of(alloc, &sizes, held) else {
         return Err(NO_MEMORY);
     };
+    let bits = sizes.bits;
     if keys.iter().any(|key| *key >= KEYS) {
         return Err(NO_ROOM);
     }
@@ -172,13 +166,13 @@ fn look_up<R: Threads + Wait + Sync>(
         ask_with(
             rt,
             alloc,
-            crew.workers,
+            sizes.workers,
             bits,
             set.cells(),
             keys,
             &OpenGate,
             &AllStart,
-            crew.rooms,
+            sizes.rooms,
         ),
         Single.ask(rt, alloc, bits, set.cells(), keys),
     ) else {
@@ -191,13 +185,11 @@ fn look_up<R: Threads + Wait + Sync>(
 }
 
 /// A set of the keys, or none for want of memory.
-fn set_of(alloc: Global, bits: u32, size: usize, keys: &[u64]) -> Option<SeqSet>
-    requires bits { IsBits bits }
-    requires size { size ≡ 2 ^ bits }
-    ensures { IfSome result (λ set. set.bits ≡ bits) }
+fn set_of(alloc: Global, sizes: &Sizes, keys: &[u64]) -> Option<SeqSet>
+    ensures { IfSome result (λ set. set.bits ≡ sizes.now.bits) }
 {
-    if keys.iter().any(|key| *key >= KEYS) || keys.len() >= size {
+    if keys.iter().any(|key| *key >= KEYS) || keys.len() >= sizes.cells {
         return None;
     }
-    SeqSet::from_keys(alloc, bits, keys).ok()
+    SeqSet::from_keys(alloc, sizes.bits, keys).ok()
 }
