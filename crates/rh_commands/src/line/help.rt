@@ -79,8 +79,9 @@ once, and the commands after them take it. No PATH of a `snapshot` is that of an
 `snapshot`, and no PATH of a `use` that of an earlier `snapshot`. `rhset dump --help` says what a
 key file is, `rhset check --help` what a snapshot is.
 
-A key file has at most 1000000 keys, and the table at most 196608. Larger lists are split into
-ranges of keys, each a job of its own: see `rhkeys split --help`.
+A key file has at most 1000000 keys. No command makes the table for more than 196608; one that is
+restored may have up to 262143. Larger lists are split into parts, each a job of its own: see
+`rhkeys split --help`.
 
 Example of a script:
   use a three.keys

@@ -173,9 +173,9 @@ are the parts of what it makes of the lists: `rhkeys list --snapshot` of the par
 all of its keys, in the order of the parts, and `sort -n` puts them in rising order. Lists that
 belong together are split into the same number of parts.
 
-A part has at most 1000000 keys, and the table of a script 196608. `--plan` has no such limit: after
-`keys` it tells how many keys there are, and after `parts` into how many parts they go so that each
-has about 150000. Without `--parts` there are as many for the size of the input: one for each
+A part has at most 1000000 keys, and a script makes no table for more than 196608. `--plan` has no
+such limit: after `keys` it tells how many keys there are, and after `parts` into how many parts
+they go so that each has about 150000. Without `--parts` there are as many for the size of the input: one for each
 1050000 bytes of a text, or 1200000 of a key file. That takes a file; of a pipe the size is not
 known.
 
