@@ -175,9 +175,9 @@ belong together are split into the same number of parts.
 
 A part has at most 1000000 keys, and a script makes no table for more than 196608. `--plan` has no
 such limit: after `keys` it tells how many keys there are, and after `parts` into how many parts
-they go so that each has about 150000. Without `--parts` there are as many for the size of the input: one for each
-1050000 bytes of a text, or 1200000 of a key file. That takes a file; of a pipe the size is not
-known.
+they go so that each has about 150000. Without `--parts` there are as many for the size of the
+input: one for each 1050000 bytes of a text, or 1200000 of a key file. That takes a file; of a pipe
+the size is not known.
 
 The files are written beside their places and put there once all are whole; on a fault none of them
 is left. Each part has an open file meanwhile: see `ulimit -n`.
