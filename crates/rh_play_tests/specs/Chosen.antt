@@ -65,22 +65,22 @@ written_for z next_number marks_used (request.Decide d state) = []
 written_for z next_number marks_used (request.Release p state value) = []
 written_for z next_number marks_used request.Claim = []
 
-bits_fit : IsBits 3
+pub bits_fit : IsBits 3
 bits_fit = (omega arith, omega arith)
 
-some_worker : 0 < 3
+pub some_worker : 0 < 3
 some_worker = omega arith
 
-workers_fit : 3 ≤ MAX_WORKERS
+pub workers_fit : 3 ≤ MAX_WORKERS
 workers_fit = omega arith
 
-keys_fit : 0 < 2 ^ 63
+pub keys_fit : 0 < 2 ^ 63
 keys_fit = search rules
 
-descriptors_fit : 2 ≤ MAX_ROOM
+pub descriptors_fit : 2 ≤ MAX_ROOM
 descriptors_fit = omega arith
 
-marks_fit : 8 ≤ MAX_ROOM
+pub marks_fit : 8 ≤ MAX_ROOM
 marks_fit = omega arith
 
 -- the table on which the steps are made again: `SHAPE` of the tests, which has no name in a contract, since it keeps what is so of

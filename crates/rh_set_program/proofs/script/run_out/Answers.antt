@@ -5,6 +5,7 @@ use Rattle.rh_script.specs.Script.{steps_of}
 use Rattle.rh_script_run.specs.Ends.{Ends as Means}
 use Rattle.rh_script_run.specs.Environment.{environment}
 use Rattle.rh_cli.proofs.EndingLemmas.{ends_with, ends_by, told_as_tells}
+use Rattle.rh_set_program.specs.declared.status.Fault.TheVariants.{Program}
 use Rattle.rh_set_program.proofs.script.run_out.Goals as goal
 
 pub returns-clause-ends : goal.returns-clause-ends
@@ -19,4 +20,4 @@ returns-clause-ends g c files known =
 
 pub returns-clause-cases : goal.returns-clause-cases
 returns-clause-cases g c =
-    let f = c.finish.ensures in ends_by _ _ _ _ _ _ (told_as_tells _ _ _ c.running.ensures) f.fails f.ends
+    let f = c.finish.ensures in ends_by _ Program _ _ _ _ (told_as_tells _ _ _ c.running.ensures) f.fails f.ends
