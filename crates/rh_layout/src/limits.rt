@@ -1,4 +1,4 @@
-//! The limits of keys and tables, each said here and nowhere else.
+//! The limits of keys and tables.
 
 /// The greatest key. A cell holds a key as itself plus 1, in 62 bits.
 pub const MAX_KEY: u64 = (1 << 62) - 2;

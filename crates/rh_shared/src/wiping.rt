@@ -71,7 +71,8 @@ fn wipe_rows(table: &Table, seat: &mut Inner)
     finish(table, seat);
 }
 
-/// The cells are kept from here on.
+/// The cells are kept from here on. What a table keeps of a seat changes by an access alone: so a
+/// word is loaded, for the proof and nothing else.
 fn begin(table: &Table, seat: &mut Inner)
     requires own { seat.old.table_id ≡ table.now.inner.shared.table_id }
     requires empty { seat.old.me.1 ≡ [] }
@@ -96,7 +97,7 @@ fn clear(table: &Table, seat: &mut Inner, row: usize)
     store::<Brand>(table, seat, table.shape.cells() + row, row);
 }
 
-/// A round begins.
+/// A round begins. This load is for the proof, too.
 fn finish(table: &Table, seat: &mut Inner)
     requires own { seat.old.table_id ≡ table.now.inner.shared.table_id }
     requires empty { seat.old.me.1 ≡ [] }

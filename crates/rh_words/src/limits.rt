@@ -1,4 +1,4 @@
-//! The limits of a shared table, each said here and nowhere else.
+//! The limits of a shared table.
 
 /// The most workers that one table may have.
 pub const MAX_WORKERS: usize = 16;
