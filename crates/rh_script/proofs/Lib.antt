@@ -2,10 +2,10 @@
 -- line adds.
 -- Naming: what the steps so far give.
 -- Order: what the grammar reads is in order.
--- Positions: the positions of the names that are given.
+-- Positions: the places of the names that are given.
 -- Numbering: a step more of a plan.
 
+pub mod Numbering
 pub mod Naming
 pub mod Order
 pub mod Positions
-pub mod Numbering

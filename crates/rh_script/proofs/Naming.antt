@@ -1,22 +1,25 @@
 -- What the steps so far give.
-use Rattle.std.proofs.Common.{◌≡◌, ◌∙◌, ◌⊎◌, inl, inr, ap, sym, subst, ℕ, Bool, true, false, cond, ◌||◌, List, [], ◌∷◌, ◌++◌, Result, Ok, is_ok, map, String, string_bytes, refl, arith}
+use Rattle.std.proofs.Common.{◌≡◌, ◌∙◌, ◌⊎◌, inl, inr, ap, sym, subst, ℕ, Bool, true, false, cond, ◌||◌, List, [], ◌∷◌, ◌++◌, length, Option, Ok, is_ok, map, String, string_bytes, refl, arith}
 use Rattle.std.specs.Global.{Global}
 use Rattle.std.specs.Str.{bytes_eq}
+use Rattle.std.specs.BTreeMap.{BTreeMap, IsEmpty as IsEmptyMap}
 use Rattle.std.specs.BTreeSet.{BTreeSet, IsEmpty, contains_text}
 use Rattle.std.proofs.lemmas.Grind.{flat_map-append}
 use Rattle.std.proofs.Math.Bool.{or-false}
 use Rattle.std.proofs.lemmas.List.{append-nil, map-append}
 use Rattle.std.proofs.lemmas.List.Folds.{list_any-append}
 use Rattle.std.specs.List.{flat_map}
-use Rattle.rh_script.specs.declared.fault.ScriptFaultKind.{ScriptFaultKind}
 use Rattle.rh_script.specs.declared.given.Given.{Given}
 use Rattle.rh_script.specs.declared.script.Command.{Command}
 use Rattle.rh_script.specs.declared.script.Command.TheVariants as commands
 use Rattle.rh_script.specs.declared.script.Step.{Step}
 use Rattle.rh_script.specs.Instruction.{Instruction, Numbered}
-use Rattle.rh_script.specs.Names.{admitted, file_of, files_in, given_by, is_given, known, names_in, once, snapshot_of, snapshots_in}
+use Rattle.rh_script.specs.Names.{admitted, file_of, files_in, given_by, is_given, names_in, once, snapshot_of, snapshots_in}
 use Rattle.rh_script.specs.Steps.{instruction_as, step_as}
-use Rattle.rh_script.specs.Script.{Answers, GivenBy, HasJust}
+use Rattle.rh_script.specs.Script.{GivenBy, HasJust, HasPlaces, HasRead}
+use Rattle.rh_lines.proofs.Reading.{both}
+use Rattle.rh_script.specs.Plan.{number_after, place_after, position_of}
+use Rattle.rh_script.proofs.Numbering.{numbered_more}
 
 pub one_more : (new old here : Bool) → new ≡ cond here true old → new ≡ (old || here)
 one_more new true true h = h
@@ -62,99 +65,71 @@ just_more old new given (text ∷ texts) has adds = λ other.
     ∙ sym (list_any-append (λ one. bytes_eq one other) given (text ∷ []))
     ∙ ap (λ all. is_given other (given ++ text ∷ all)) (sym adds.0)
 
-given_more : (before : List Numbered) (line : ℕ) (said : Instruction) (old new : Given) → GivenBy before old → Adds old.names new.names (given_by said) → Adds old.files new.files (file_of said) → Adds old.snapshots new.snapshots (snapshot_of said) → GivenBy (before ++ record { line = line; instruction = said } ∷ []) new
-given_more before line said old new has names files snapshots =
+given_more : (before : List Numbered) (line : ℕ) (said : Instruction) (old new : Given) → GivenBy before old → HasPlaces new.lists (names_in before ++ given_by said) → Adds old.files new.files (file_of said) → Adds old.snapshots new.snapshots (snapshot_of said) → GivenBy (before ++ record { line = line; instruction = said } ∷ []) new
+given_more before line said old new has lists files snapshots =
     let step : Numbered = record { line = line; instruction = said } in
     record {
-      names = subst (HasJust new.names) (sym (names_more before step)) (just_more old.names new.names (names_in before) (given_by said) has.names names);
+      lists = subst (HasPlaces new.lists) (sym (names_more before step)) lists;
       files = subst (HasJust new.files) (sym (files_more before step)) (just_more old.files new.files (files_in before) (file_of said) has.files files);
       snapshots = subst (HasJust new.snapshots) (sym (snapshots_more before step)) (just_more old.snapshots new.snapshots (snapshots_in before) (snapshot_of said) has.snapshots snapshots);
     }
 
-pub nothing_given : (given : Given) → IsEmpty given.names → IsEmpty given.files → IsEmpty given.snapshots → GivenBy [] given
-unfolding is_given names_in files_in snapshots_in
-nothing_given given names files snapshots = record {
-  names = λ text. grind (arith, names);
+pub nothing_given : (given : Given) → IsEmptyMap given.lists → IsEmpty given.files → IsEmpty given.snapshots → GivenBy [] given
+unfolding is_given names_in files_in snapshots_in position_of
+nothing_given given lists files snapshots = record {
+  lists = record { many = ap length lists; places = λ name. rw lists refl };
   files = λ text. grind (arith, files);
   snapshots = λ text. grind (arith, snapshots);
 }
 
--- ---- the names and paths of a command
-
-abbrev pub Uses : Command → String Global → Type 0
-Uses command name = (command ≡ commands.Add name) ⊎ ((command ≡ commands.Drop name) ⊎ ((command ≡ commands.Ask name) ⊎ ((command ≡ commands.Keep name) ⊎ (command ≡ commands.Flip name))))
-
--- what is kept grows by what the command gives
-abbrev pub Gives : Command → Given → Given → Type 0
-Gives command old new =
-    Adds old.names new.names (given_by (instruction_as command))
-    × Adds old.files new.files (file_of (instruction_as command))
-    × Adds old.snapshots new.snapshots (snapshot_of (instruction_as command))
+-- ---- what a command leaves
 
 pub adds_one : (old new : BTreeSet (String Global)) (string : String Global) (text : List ℕ) → text ≡ string_bytes string → ((other : List ℕ) → contains_text new other ≡ (contains_text old other || bytes_eq text other)) → Adds old new (string_bytes string ∷ [])
 adds_one old new string text is adds = (refl, λ other. adds other ∙ ap (λ t. contains_text old other || bytes_eq t other) is)
 
-pub kept : (before : List Numbered) (line : ℕ) (command shape : Command) (old new : Given) → GivenBy before old → command ≡ shape → Gives shape old new → GivenBy (before ++ record { line = line; instruction = instruction_as command } ∷ []) new
-kept before line command shape old new has is gives =
-    subst (λ c. GivenBy (before ++ record { line = line; instruction = instruction_as c } ∷ []) new) (sym is) (given_more before line (instruction_as shape) old new has gives.0 gives.1 gives.2)
+pub same_places : (lists : BTreeMap (String Global) ℕ) (given : List (List ℕ)) → HasPlaces lists given → HasPlaces lists (given ++ [])
+same_places lists given has = subst (HasPlaces lists) (sym (append-nil given)) has
 
-pub use_kept : (before : List Numbered) (line : ℕ) (command : Command) (name : String Global) (given : Given) → GivenBy before given → Uses command name → GivenBy (before ++ record { line = line; instruction = instruction_as command } ∷ []) given
-use_kept before line command name given has (inl is) = kept before line command _ given given has is (refl, refl, refl)
-use_kept before line command name given has (inr (inl is)) = kept before line command _ given given has is (refl, refl, refl)
-use_kept before line command name given has (inr (inr (inl is))) = kept before line command _ given given has is (refl, refl, refl)
-use_kept before line command name given has (inr (inr (inr (inl is)))) = kept before line command _ given given has is (refl, refl, refl)
-use_kept before line command name given has (inr (inr (inr (inr is)))) = kept before line command _ given given has is (refl, refl, refl)
+pub kept : (before : List Numbered) (line : ℕ) (command shape : Command) (old new : Given) → GivenBy before old → command ≡ shape
+    → HasPlaces new.lists (names_in before ++ given_by (instruction_as shape)) → Adds old.files new.files (file_of (instruction_as shape)) → Adds old.snapshots new.snapshots (snapshot_of (instruction_as shape))
+    → GivenBy (before ++ record { line = line; instruction = instruction_as command } ∷ []) new
+kept before line command shape old new has is lists files snapshots =
+    subst (λ c. GivenBy (before ++ record { line = line; instruction = instruction_as c } ∷ []) new) (sym is) (given_more before line (instruction_as shape) old new has lists files snapshots)
+
+-- of a command that gives nothing
+pub nothing_kept : (before : List Numbered) (line : ℕ) (command shape : Command) (given : Given) → GivenBy before given → command ≡ shape
+    → given_by (instruction_as shape) ≡ [] → file_of (instruction_as shape) ≡ [] → snapshot_of (instruction_as shape) ≡ []
+    → GivenBy (before ++ record { line = line; instruction = instruction_as command } ∷ []) given
+nothing_kept before line command shape given has is no_name no_file no_snapshot =
+    kept before line command shape given given has is (rw no_name (same_places given.lists (names_in before) has.lists)) (rw no_file refl) (rw no_snapshot refl)
 
 -- the command has no name, and gives no path
 abbrev pub GivesNothing : Command → Type 0
 GivesNothing command = (command ≡ commands.Clear) ⊎ ((command ≡ commands.Dump) ⊎ ((path : String Global) × (command ≡ commands.Restore path)))
 
-pub nothing_kept : (before : List Numbered) (line : ℕ) (command : Command) (given : Given) → GivenBy before given → GivesNothing command → GivenBy (before ++ record { line = line; instruction = instruction_as command } ∷ []) given
-nothing_kept before line command given has (inl is) = kept before line command _ given given has is (refl, refl, refl)
-nothing_kept before line command given has (inr (inl is)) = kept before line command _ given given has is (refl, refl, refl)
-nothing_kept before line command given has (inr (inr is)) = kept before line command _ given given has is.1 (refl, refl, refl)
+pub none_kept : (before : List Numbered) (line : ℕ) (command : Command) (given : Given) → GivenBy before given → GivesNothing command → GivenBy (before ++ record { line = line; instruction = instruction_as command } ∷ []) given
+none_kept before line command given has (inl is) = nothing_kept before line command _ given has is refl refl refl
+none_kept before line command given has (inr (inl is)) = nothing_kept before line command _ given has is refl refl refl
+none_kept before line command given has (inr (inr is)) = nothing_kept before line command _ given has is.1 refl refl refl
 
 -- ---- what a command is answered
-
-found : (texts : BTreeSet (String Global)) (given : List (List ℕ)) (string : String Global) (text : List ℕ) → HasJust texts given → text ≡ string_bytes string → contains_text texts text ≡ is_given (string_bytes string) given
-found texts given string text has is = has text ∙ ap (λ t. is_given t given) is
-
-pub used : (before : List Numbered) (command : Command) (name : String Global) → Uses command name → admitted before (instruction_as command) ≡ known (is_given (string_bytes name) (names_in before))
-unfolding admitted
-used before command name (inl is) = ap (λ c. admitted before (instruction_as c)) is
-used before command name (inr (inl is)) = ap (λ c. admitted before (instruction_as c)) is
-used before command name (inr (inr (inl is))) = ap (λ c. admitted before (instruction_as c)) is
-used before command name (inr (inr (inr (inl is)))) = ap (λ c. admitted before (instruction_as c)) is
-used before command name (inr (inr (inr (inr is)))) = ap (λ c. admitted before (instruction_as c)) is
-
-pub use_answered : (before : List Numbered) (given : Given) (command : Command) (name : String Global) (text : List ℕ) (b : Bool) → GivenBy before given → Uses command name → text ≡ string_bytes name → contains_text given.names text ≡ b → admitted before (instruction_as command) ≡ known b
-use_answered before given command name text b has uses is held =
-    used before command name uses ∙ ap known (sym (found given.names (names_in before) name text has.names is) ∙ held)
-
-pub save_answered : (before : List Numbered) (given : Given) (command : Command) (name : String Global) (text : List ℕ) (r : Result (Unit {0}) ScriptFaultKind) → GivenBy before given → command ≡ commands.Save name → text ≡ string_bytes name → Answers (once (contains_text given.names text)) (λ _. tt) r → Answers (admitted before (instruction_as command)) (λ _. tt) r
-unfolding admitted
-save_answered before given command name text r has is text_is =
-    let same : once (contains_text given.names text) ≡ admitted before (instruction_as command) =
-    ap once (found given.names (names_in before) name text has.names text_is) ∙ sym (ap (λ c. admitted before (instruction_as c)) is) in
-    subst (λ said. Answers said (λ _. tt) r) same
 
 pub may_stand_once : (b : Bool) → is_ok (once b) ≡ true → b ≡ false
 may_stand_once true h = absurd cc
 may_stand_once false h = refl
 
-pub snapshot_answered : (before : List Numbered) (given : Given) (command : Command) (path : String Global) (text again : List ℕ) (r : Result (Unit {0}) ScriptFaultKind) → GivenBy before given → command ≡ commands.Snapshot path → text ≡ string_bytes path → again ≡ string_bytes path → once (contains_text given.files text) ≡ Ok tt → Answers (once (contains_text given.snapshots again)) (λ _. tt) r → Answers (admitted before (instruction_as command)) (λ _. tt) r
-unfolding admitted
-snapshot_answered before given command path text again r has is text_is again_is no_file =
-    let none : is_given (string_bytes path) (files_in before) ≡ false = sym (found given.files (files_in before) path text has.files text_is) ∙ may_stand_once _ (ap is_ok no_file) in
-    let same : once (contains_text given.snapshots again) ≡ admitted before (instruction_as command) =
-    ap once (found given.snapshots (snapshots_in before) path again has.snapshots again_is)
-    ∙ ap (λ b. once (b || is_given (string_bytes path) (snapshots_in before))) (sym none)
-    ∙ sym (ap (λ c. admitted before (instruction_as c)) is) in
-    subst (λ said. Answers said (λ _. tt) r) same
+-- the number that was answered is that of the instruction's list
+pub numbered_as : (before : List Numbered) (said : Instruction) (list : Option ℕ) → place_after before said ≡ Ok list → list ≡ number_after (names_in before) said
+numbered_as before said list is =
+    let ok = both (admitted before said) _ list is in
+    cc (ok.2)
 
 -- ---- a line more of a script
 
-pub known_more : (old new : Given) (before after : List Step) (step : Step) → GivenBy (map step_as before) old → ((steps : List Numbered) (line : ℕ) → GivenBy steps old → GivenBy (steps ++ record { line = line; instruction = instruction_as step.command } ∷ []) new) → after ≡ before ++ step ∷ [] → GivenBy (map step_as after) new
-known_more old new before after step has kept is =
+pub known_more : (old new : Given) (before after : List Step) (step : Step) → HasRead before old → ((steps : List Numbered) (line : ℕ) → GivenBy steps old → GivenBy (steps ++ record { line = line; instruction = instruction_as step.command } ∷ []) new) → step.list ≡ number_after (names_in (map step_as before)) (instruction_as step.command) → after ≡ before ++ step ∷ [] → HasRead after new
+known_more old new before after step has kept list is =
     let more : map step_as before ++ step_as step ∷ [] ≡ map step_as after = sym (ap (map step_as) is ∙ map-append step_as before (step ∷ [])) in
-    subst (λ steps. GivenBy steps new) more (kept (map step_as before) step.line has)
+    record {
+      kept = subst (λ steps. GivenBy steps new) more (kept (map step_as before) step.line has.kept);
+      numbered = numbered_more before after step has.numbered list is;
+    }

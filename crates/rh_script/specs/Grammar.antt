@@ -6,10 +6,11 @@ use Rattle.std.specs.List.{list_all}
 use Rattle.rh_script.specs.declared.fault.ScriptFault.{ScriptFault}
 use Rattle.rh_script.specs.declared.fault.ScriptFaultKind.{ScriptFaultKind}
 use Rattle.rh_script.specs.declared.fault.ScriptFaultKind.TheVariants.{TooLong, BadCommand, BadName}
+use Rattle.rh_script.specs.declared.action.Action.TheVariants.{Add, Drop, Keep, Flip, Ask}
 use Rattle.rh_script.specs.declared.verb.Verb.{Verb}
 use Rattle.rh_script.specs.declared.verb.Verb.TheVariants as verbs
 use Rattle.rh_script.specs.declared.limits.TheConstants.{MAX_LINES, MAX_LINE_BYTES, MAX_NAME_BYTES}
-use Rattle.rh_script.specs.Instruction.{Instruction, Use, Add, Drop, Ask, Keep, Flip, Save, Clear, Dump, Snapshot, Restore, Numbered}
+use Rattle.rh_script.specs.Instruction.{Instruction, Use, Act, Save, Clear, Dump, Snapshot, Restore, Numbered}
 use Rattle.rh_lines.specs.Lines.{without_return}
 use Rattle.rh_lines.specs.Grammar.{◌>>=◌, Grammar, no_word, read_by}
 use Rattle.rh_lines.specs.Grammar as texts
@@ -30,11 +31,11 @@ is_name (first ∷ others) =
 unfoldable pub verb_of : List ℕ → Option Verb
 verb_of word =
     if bytes_eq word (codes "use") then Some verbs.Use
-    else if bytes_eq word (codes "add") then Some verbs.Add
-    else if bytes_eq word (codes "drop") then Some verbs.Drop
-    else if bytes_eq word (codes "ask") then Some verbs.Ask
-    else if bytes_eq word (codes "keep") then Some verbs.Keep
-    else if bytes_eq word (codes "flip") then Some verbs.Flip
+    else if bytes_eq word (codes "add") then Some (verbs.Act Add)
+    else if bytes_eq word (codes "drop") then Some (verbs.Act Drop)
+    else if bytes_eq word (codes "ask") then Some (verbs.Act Ask)
+    else if bytes_eq word (codes "keep") then Some (verbs.Act Keep)
+    else if bytes_eq word (codes "flip") then Some (verbs.Act Flip)
     else if bytes_eq word (codes "save") then Some verbs.Save
     else if bytes_eq word (codes "clear") then Some verbs.Clear
     else if bytes_eq word (codes "dump") then Some verbs.Dump
@@ -66,11 +67,7 @@ on_path instruction words = one_path words >>= (λ path. Ok (instruction path))
 -- the instruction of a verb with the words after it
 unfoldable pub instruction_of : Verb → List (List ℕ) → Result Instruction ScriptFaultKind
 instruction_of verbs.Use words = name_and_path words >>= (λ given. Ok (Use given.0 given.1))
-instruction_of verbs.Add words = on_name Add words
-instruction_of verbs.Drop words = on_name Drop words
-instruction_of verbs.Ask words = on_name Ask words
-instruction_of verbs.Keep words = on_name Keep words
-instruction_of verbs.Flip words = on_name Flip words
+instruction_of (verbs.Act action) words = on_name (Act action) words
 instruction_of verbs.Save words = on_name Save words
 instruction_of verbs.Clear words = no_word BadCommand Clear words
 instruction_of verbs.Dump words = no_word BadCommand Dump words

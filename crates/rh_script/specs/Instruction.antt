@@ -1,14 +1,12 @@
 -- What a script says, with its texts as lists of bytes.
 use Rattle.std.specs.Prelude.{ℕ, List}
+use Rattle.rh_script.specs.declared.action.Action.{Action}
 
 -- a command with its words
 pub data Instruction : Type 0 where
   Use : (name path : List ℕ) → Instruction
-  Add : (name : List ℕ) → Instruction
-  Drop : (name : List ℕ) → Instruction
-  Ask : (name : List ℕ) → Instruction
-  Keep : (name : List ℕ) → Instruction
-  Flip : (name : List ℕ) → Instruction
+  -- the action on the keys of the list of this name
+  Act : Action → (name : List ℕ) → Instruction
   Save : (name : List ℕ) → Instruction
   Clear : Instruction
   Dump : Instruction

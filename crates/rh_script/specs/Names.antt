@@ -4,7 +4,7 @@ use Rattle.std.specs.Str.{bytes_eq}
 use Rattle.std.specs.List.{flat_map, list_any}
 use Rattle.rh_script.specs.declared.fault.ScriptFaultKind.{ScriptFaultKind}
 use Rattle.rh_script.specs.declared.fault.ScriptFaultKind.TheVariants.{Unknown, Twice}
-use Rattle.rh_script.specs.Instruction.{Instruction, Use, Add, Drop, Ask, Keep, Flip, Save, Clear, Dump, Snapshot, Restore, Numbered}
+use Rattle.rh_script.specs.Instruction.{Instruction, Use, Act, Save, Clear, Dump, Snapshot, Restore, Numbered}
 
 -- the name that an instruction gives, if it gives one
 abbrev pub given_by : Instruction → List (List ℕ)
@@ -51,11 +51,7 @@ known given = if given then Ok tt else Err Unknown
 -- `restore x`: fine.
 unfoldable pub admitted : List Numbered → Instruction → Result (Unit {0}) ScriptFaultKind
 admitted before (Use name path) = once (is_given path (snapshots_in before) || is_given name (names_in before))
-admitted before (Add name) = known (is_given name (names_in before))
-admitted before (Drop name) = known (is_given name (names_in before))
-admitted before (Ask name) = known (is_given name (names_in before))
-admitted before (Keep name) = known (is_given name (names_in before))
-admitted before (Flip name) = known (is_given name (names_in before))
+admitted before (Act action name) = known (is_given name (names_in before))
 admitted before (Save name) = once (is_given name (names_in before))
 admitted before Clear = Ok tt
 admitted before Dump = Ok tt

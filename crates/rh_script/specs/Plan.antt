@@ -1,8 +1,10 @@
 -- The plan of a script: its steps, with their lists numbered.
-use Rattle.std.specs.Prelude.{ℕ, List, [], ◌∷◌, ◌++◌, length, position, Option, Some, None}
+use Rattle.std.specs.Prelude.{ℕ, List, [], ◌∷◌, ◌++◌, length, position, Option, Some, None, Result, Ok}
 use Rattle.std.specs.Str.{bytes_eq}
-use Rattle.rh_script.specs.Instruction.{Instruction, Use, Add, Drop, Ask, Keep, Flip, Save, Clear, Dump, Snapshot, Restore, Numbered}
-use Rattle.rh_script.specs.Names.{given_by}
+use Rattle.rh_script.specs.Instruction.{Instruction, Use, Act, Save, Clear, Dump, Snapshot, Restore, Numbered}
+use Rattle.rh_lines.specs.Grammar.{◌>>=◌}
+use Rattle.rh_script.specs.declared.fault.ScriptFaultKind.{ScriptFaultKind}
+use Rattle.rh_script.specs.Names.{admitted, given_by, is_given, names_in, once}
 
 -- an instruction with its line and the number of its list
 pub record Planned : Type 0 where
@@ -17,16 +19,20 @@ position_of name given = position (λ other. bytes_eq other name) given
 -- the number of an instruction's list, after these names: a new name has the next number
 unfoldable pub number_after : List (List ℕ) → Instruction → Option ℕ
 number_after given (Use name path) = Some (length given)
-number_after given (Add name) = position_of name given
-number_after given (Drop name) = position_of name given
-number_after given (Ask name) = position_of name given
-number_after given (Keep name) = position_of name given
-number_after given (Flip name) = position_of name given
+number_after given (Act action name) = position_of name given
 number_after given (Save name) = Some (length given)
 number_after given Clear = None
 number_after given Dump = None
 number_after given (Snapshot path) = None
 number_after given (Restore path) = None
+
+-- the next number, for a name that was not given before
+abbrev pub next_place : (name : List ℕ) → (given : List (List ℕ)) → Result ℕ ScriptFaultKind
+next_place name given = once (is_given name given) >>= (λ _. Ok (length given))
+
+-- the number of an instruction's list after these steps, if it may stand there
+abbrev pub place_after : List Numbered → Instruction → Result (Option ℕ) ScriptFaultKind
+place_after before said = admitted before said >>= (λ _. Ok (number_after (names_in before) said))
 
 -- the steps with their numbers, after these names
 unfoldable pub planned_after : List (List ℕ) → List Numbered → List Planned

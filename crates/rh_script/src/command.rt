@@ -51,19 +51,8 @@ fn command_of(alloc: Global, verb: Verb, rest: &str) -> Result<Command, ScriptFa
             let (name, path) = read_name_and_path(alloc, rest)?;
             Command::Use { name, path }
         }
-        Verb::Add => Command::Add {
-            name: read_name(alloc, rest)?,
-        },
-        Verb::Drop => Command::Drop {
-            name: read_name(alloc, rest)?,
-        },
-        Verb::Ask => Command::Ask {
-            name: read_name(alloc, rest)?,
-        },
-        Verb::Keep => Command::Keep {
-            name: read_name(alloc, rest)?,
-        },
-        Verb::Flip => Command::Flip {
+        Verb::Act(action) => Command::Act {
+            action,
             name: read_name(alloc, rest)?,
         },
         Verb::Save => Command::Save {

@@ -1,22 +1,24 @@
 //! What the lines so far gave.
 
-ghost use Rattle.std.specs.Prelude.{◌≡◌, ℕ, [], ◌∷◌, ◌||◌, ◌++◌, List, IfErr, OnOk};
-ghost use Rattle.std.specs.Str.{bytes_eq};
+ghost use Rattle.std.specs.Prelude.{◌≡◌, [], ◌∷◌, ◌++◌, ◌||◌, ℕ, IfErr, List, OnOk, Option};
 ghost use Rattle.std.specs.BTreeSet.{contains_text};
+ghost use Rattle.std.specs.Str.{bytes_eq};
 ghost use Rattle.rh_script.specs.Instruction.{Numbered};
-ghost use Rattle.rh_script.specs.Names.{admitted, once};
+ghost use Rattle.rh_script.specs.Names.{once};
+ghost use Rattle.rh_script.specs.Plan.{next_place, place_after};
 ghost use Rattle.rh_script.specs.Steps.{instruction_as};
-ghost use Rattle.rh_script.specs.Script.{Answers, GivenBy};
+ghost use Rattle.rh_script.specs.Script.{Answers, GivenBy, HasPlaces};
 
 use crate::fault::ScriptFaultKind;
 use crate::script::Command;
 use std::alloc::Global;
-use std::collections::BTreeSet;
+use std::collections::{BTreeMap, BTreeSet};
 
-/// The names of lists, the paths that are read as key files, and those of snapshots.
+/// The names of lists with their numbers, the paths that are read as key files, and those of
+/// snapshots.
 #[derive(Drop)]
 pub(crate) struct Given {
-    names: BTreeSet<String>,
+    lists: BTreeMap<String, usize>,
     files: BTreeSet<String>,
     snapshots: BTreeSet<String>,
 }
@@ -26,17 +28,22 @@ impl Given {
         ensures { GivenBy [] result }
     {
         Given {
-            names: BTreeSet::new(alloc),
+            lists: BTreeMap::new(alloc),
             files: BTreeSet::new(alloc),
             snapshots: BTreeSet::new(alloc),
         }
     }
 
-    /// Tests that the command may stand here, and keeps what it gives.
-    #[tactic(auto, unfolding(crate::specs::Names::admitted))]
-    pub(crate) fn admit(&mut self, alloc: Global, command: &Command) -> Result<(), ScriptFaultKind>
+    /// Tests that the command may stand here, and keeps what it gives. Answers the number of its
+    /// list.
+    #[tactic(auto, unfolding(crate::specs::Names::admitted, crate::specs::Plan::number_after))]
+    pub(crate) fn admit(
+        &mut self,
+        alloc: Global,
+        command: &Command,
+    ) -> Result<Option<usize>, ScriptFaultKind>
         ensures admitted { (before : List Numbered) → GivenBy before self.old →
-            Answers (admitted before (instruction_as command.now)) (λ _. tt) result }
+            Answers (place_after before (instruction_as command.now)) (λ list. list) result }
         ensures kept { (before : List Numbered) (line : ℕ) → GivenBy before self.old →
             OnOk result (GivenBy (before ++ record {
               line = line;
@@ -46,36 +53,44 @@ impl Given {
         match command {
             Command::Use { name, path } => {
                 once(&self.snapshots, path)?;
-                give(alloc, &mut self.names, name)?;
-                keep(alloc, &mut self.files, path)
+                let list = give_list(alloc, &mut self.lists, name)?;
+                keep(alloc, &mut self.files, path)?;
+                Ok(Some(list))
             }
-            Command::Save { name } => give(alloc, &mut self.names, name),
-            Command::Add { name }
-            | Command::Drop { name }
-            | Command::Ask { name }
-            | Command::Keep { name }
-            | Command::Flip { name } => {
-                if !self.names.contains(name.as_str()) {
-                    return Err(ScriptFaultKind::Unknown);
-                }
-                Ok(())
-            }
+            Command::Save { name } => Ok(Some(give_list(alloc, &mut self.lists, name)?)),
+            Command::Act { name, .. } => match self.lists.get(name.as_str()) {
+                Some(list) => Ok(Some(*list)),
+                None => Err(ScriptFaultKind::Unknown),
+            },
             Command::Snapshot { path } => {
                 once(&self.files, path)?;
-                give(alloc, &mut self.snapshots, path)
+                once(&self.snapshots, path)?;
+                keep(alloc, &mut self.snapshots, path)?;
+                Ok(None)
             }
-            Command::Clear | Command::Dump | Command::Restore { .. } => Ok(()),
+            Command::Clear | Command::Dump | Command::Restore { .. } => Ok(None),
         }
     }
 }
 
-fn give(alloc: Global, texts: &mut BTreeSet<String>, text: &str) -> Result<(), ScriptFaultKind>
-    ensures new { Answers (once (contains_text texts.old text.now)) (λ _. tt) result }
-    ensures kept { OnOk result ((other : List ℕ) → contains_text texts.new other ≡
-        (contains_text texts.old other || bytes_eq text.now other)) }
+/// Gives a list the next number, by its name.
+fn give_list(
+    alloc: Global,
+    lists: &mut BTreeMap<String, usize>,
+    name: &str,
+) -> Result<usize, ScriptFaultKind>
+    ensures new { (given : List (List ℕ)) → HasPlaces lists.old given →
+        Answers (next_place name.now given) (λ list. list) result }
+    ensures kept { (given : List (List ℕ)) → HasPlaces lists.old given →
+        OnOk result (HasPlaces lists.new (given ++ name.now ∷ [])) }
 {
-    once(texts, text)?;
-    keep(alloc, texts, text)
+    if lists.contains_key(name) {
+        return Err(ScriptFaultKind::Twice);
+    }
+    let list = lists.len();
+    let name = String::from_str(alloc, name)?;
+    lists.insert(name, list)?;
+    Ok(list)
 }
 
 /// Tests that the text is not there yet.

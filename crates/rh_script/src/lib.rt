@@ -9,11 +9,12 @@
 //!   which no line has one, want of memory too.
 //! - In what it answers each name is given once, and before it is used. No path is both read as
 //!   keys and written as a snapshot, and no snapshot is written twice.
-//! - `plan`: one step for each command, with its line and the number of its list. No `snapshot` of
-//!   the script has the path of an earlier `use` or `snapshot`.
+//! - Each step of a script has its command's line and the number of its list, and `plan` hands on
+//!   just these steps.
 //! - `fixed_numbers`: the limits of a script, each by its value.
 #![tactic(auto)]
 
+mod action;
 mod command;
 mod fault;
 mod given;
@@ -23,13 +24,12 @@ mod name;
 mod planning;
 mod reading;
 mod script;
-mod task;
 mod verb;
 
+pub use action::Action;
 pub use fault::{ScriptFault, ScriptFaultKind};
 pub use laws::fixed_numbers;
 pub use limits::{MAX_LINE_BYTES, MAX_LINES, MAX_NAME_BYTES};
 pub use planning::plan;
 pub use reading::parse;
-pub use script::{Command, Script, Step};
-pub use task::{Plan, PlannedStep, Task};
+pub use script::{Command, Plan, Script, Step};

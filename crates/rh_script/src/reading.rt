@@ -5,7 +5,7 @@ ghost use Rattle.rh_script.specs.declared.limits.TheConstants.{MAX_LINES};
 ghost use Rattle.rh_script.specs.Grammar.{HasNoFaultBefore, after_line, script_of};
 ghost use Rattle.rh_lines.specs.Lines.{lines_of};
 ghost use Rattle.rh_script.specs.Steps.{step_as};
-ghost use Rattle.rh_script.specs.Script.{Answers, GivenBy, steps_of};
+ghost use Rattle.rh_script.specs.Script.{Answers, HasRead, steps_of};
 
 use crate::command::read_command;
 use crate::fault::{ScriptFault, ScriptFaultKind};
@@ -28,11 +28,10 @@ impl Reading {
     /// Reads the next line. A fault, want of memory too, stands at this line.
     fn read_line(&mut self, line: &[u8]) -> Result<(), ScriptFault>
         requires few { self.old.line ≤ MAX_LINES }
-        requires known { GivenBy (map step_as self.old.steps.items) self.old.given }
+        requires known { HasRead self.old.steps.items self.old.given }
         ensures line { self.new.line ≡ self.old.line + 1 }
         ensures few { OnOk result (self.new.line ≤ MAX_LINES) }
-        ensures known { OnOk result
-            (GivenBy (map step_as self.new.steps.items) self.new.given) }
+        ensures known { OnOk result (HasRead self.new.steps.items self.new.given) }
         ensures read { OnOk result
             (after_line self.new.line (map step_as self.old.steps.items) line.now
             ≡ Ok (map step_as self.new.steps.items)) }
@@ -54,11 +53,10 @@ impl Reading {
     /// Takes in what the line says.
     #[tactic(auto, unfolding(crate::specs::Grammar::after_line, crate::specs::Grammar::entered))]
     fn enter(&mut self, line: &[u8]) -> Result<(), ScriptFaultKind>
-        requires { GivenBy (map step_as self.old.steps.items) self.old.given }
+        requires { HasRead self.old.steps.items self.old.given }
         ensures line { self.new.line ≡ self.old.line }
         ensures few { OnOk result (self.new.line ≤ MAX_LINES) }
-        ensures known { OnOk result
-            (GivenBy (map step_as self.new.steps.items) self.new.given) }
+        ensures known { OnOk result (HasRead self.new.steps.items self.new.given) }
         ensures read { Answers
             (after_line self.new.line (map step_as self.old.steps.items) line.now)
             (λ _. map step_as self.new.steps.items) result }
@@ -68,8 +66,12 @@ impl Reading {
         }
         if let Some(command) = read_command(self.alloc, without_return(line))? {
             let line = self.line;
-            self.given.admit(self.alloc, &command)?;
-            self.steps.push(Step { line, command })?;
+            let list = self.given.admit(self.alloc, &command)?;
+            self.steps.push(Step {
+                line,
+                command,
+                list,
+            })?;
         }
         Ok(())
     }

@@ -3,15 +3,13 @@
 ghost use Rattle.std.specs.Prelude.{◌≡◌};
 ghost use Rattle.rh_script.specs.Grammar.{verb_of};
 
+use crate::action::Action;
+
 /// The commands without their words.
 #[derive(Clone, Copy)]
 pub(crate) enum Verb {
     Use,
-    Add,
-    Drop,
-    Ask,
-    Keep,
-    Flip,
+    Act(Action),
     Save,
     Clear,
     Dump,
@@ -26,11 +24,11 @@ impl Verb {
     {
         match word {
             "use" => Some(Verb::Use),
-            "add" => Some(Verb::Add),
-            "drop" => Some(Verb::Drop),
-            "ask" => Some(Verb::Ask),
-            "keep" => Some(Verb::Keep),
-            "flip" => Some(Verb::Flip),
+            "add" => Some(Verb::Act(Action::Add)),
+            "drop" => Some(Verb::Act(Action::Drop)),
+            "ask" => Some(Verb::Act(Action::Ask)),
+            "keep" => Some(Verb::Act(Action::Keep)),
+            "flip" => Some(Verb::Act(Action::Flip)),
             "save" => Some(Verb::Save),
             "clear" => Some(Verb::Clear),
             "dump" => Some(Verb::Dump),

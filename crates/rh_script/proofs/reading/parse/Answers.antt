@@ -3,6 +3,7 @@ use Rattle.std.proofs.Common.{◌∙◌, ap, arith, sym, Err}
 use Rattle.rh_lines.specs.Lines.{lines_of}
 use Rattle.rh_lines.proofs.Reading.{all_done, begun, gone_on, refused}
 use Rattle.rh_script.specs.Grammar.{script_grammar}
+use Rattle.rh_script.proofs.Numbering.{no_step_numbered}
 use Rattle.rh_script.proofs.Order.{read_in_order}
 use Rattle.rh_script.proofs.reading.parse.Goals as goal
 
@@ -10,7 +11,7 @@ pub loop-line-init : goal.loop-line-init
 loop-line-init c = record {
   few = omega arith;
   stands = rw c.new-2.ensures.items (begun script_grammar (lines_of c.args.text.now));
-  known = rw c.new-2.ensures.items c.new.ensures;
+  known = rw c.new-2.ensures.items (record { kept = c.new.ensures; numbered = no_step_numbered });
 }
 
 pub returns-in_err-read_line-clause-refused : goal.returns-in_err-read_line-clause-refused
@@ -29,4 +30,7 @@ loop-line-preserved c = record {
 }
 
 pub invariant_of-result : goal.invariant_of-result
-invariant_of-result c = record { in_order = read_in_order c.args.text.now _ (all_done script_grammar c.args.text.now _ _ _ c.loop-line.invariant.stands c.in_default.ensures) }
+invariant_of-result c = record {
+  in_order = read_in_order c.args.text.now _ (all_done script_grammar c.args.text.now _ _ _ c.loop-line.invariant.stands c.in_default.ensures);
+  numbered = c.loop-line.invariant.known.numbered;
+}

@@ -1,50 +1,50 @@
-use Rattle.std.proofs.Common.{sym, refl, false, true}
-use Rattle.std.proofs.lemmas.Result.{on_ok_weaker}
-use Rattle.rh_script.proofs.Naming.{adds_one, kept, nothing_kept, save_answered, snapshot_answered, use_answered, use_kept}
+use Rattle.std.proofs.Common.{◌∙◌, ap, option_copied, refl, string_bytes, sym}
+use Rattle.std.specs.BTreeMap.{get_by_text}
+use Rattle.rh_script.specs.Names.{admitted}
+use Rattle.rh_script.specs.Plan.{number_after, place_after}
+use Rattle.rh_script.specs.Steps.{instruction_as}
+use Rattle.rh_script.proofs.Naming.{adds_one, kept, none_kept, nothing_kept, same_places}
+use Rattle.rh_script.proofs.Positions.{looked_up, place_looked_up}
 use Rattle.rh_script.proofs.given.Given.admit.Goals as goal
 
-pub returns-then-not-contains-clause-admitted : goal.returns-then-not-contains-clause-admitted
-returns-then-not-contains-clause-admitted c = λ before has _.
-    use_answered before c.args.self.now c.args.command.now c.in-Add.name c.as_str.result.now false has c.in-Add.is c.as_str.ensures.value (sym c.if-not-contains.ensures)
+pub returns-in-Some-clause-admitted : goal.returns-in-Some-clause-admitted
+unfolding admitted number_after
+returns-in-Some-clause-admitted c = λ before has.
+    ap (λ s. place_after before (instruction_as s)) c.in-Act.is
+    ∙ place_looked_up c.args.self.now.lists _ (string_bytes c.in-Act.name) has.lists
+    ∙ ap (λ text. looked_up (get_by_text c.args.self.now.lists text)) (sym c.as_str.ensures.value)
+    ∙ ap looked_up (sym c.get.ensures.value ∙ ap option_copied c.in-Some.is)
 
-pub returns-else-not-contains-clause-admitted : goal.returns-else-not-contains-clause-admitted
-returns-else-not-contains-clause-admitted c = λ before has.
-    use_answered before c.args.self.now c.args.command.now c.in-Add.name c.as_str.result.now true has c.in-Add.is c.as_str.ensures.value (sym c.if-not-contains.ensures)
-
-pub returns-in-Save-clause-admitted : goal.returns-in-Save-clause-admitted
-returns-in-Save-clause-admitted c = λ before has.
-    save_answered before c.args.self.now c.args.command.now c.in-Save.name c.deref-in-Save.result.now c.give-in-Save.result has c.in-Save.is c.deref-in-Save.ensures c.give-in-Save.ensures.new
-
-pub returns-in_ok-once-in-Snapshot-clause-admitted : goal.returns-in_ok-once-in-Snapshot-clause-admitted
-returns-in_ok-once-in-Snapshot-clause-admitted c = λ before has.
-    snapshot_answered before c.args.self.now c.args.command.now c.in-Snapshot.path c.deref-in-Snapshot.result.now c.deref-in-Snapshot-2.result.now c.give-in-Snapshot.result has c.in-Snapshot.is c.deref-in-Snapshot.ensures c.deref-in-Snapshot-2.ensures (sym c.in_ok-once-in-Snapshot.ensures) c.give-in-Snapshot.ensures.new
+pub returns-in-None-clause-admitted : goal.returns-in-None-clause-admitted
+unfolding admitted number_after
+returns-in-None-clause-admitted c = λ before has _.
+    ap (λ s. place_after before (instruction_as s)) c.in-Act.is
+    ∙ place_looked_up c.args.self.now.lists _ (string_bytes c.in-Act.name) has.lists
+    ∙ ap (λ text. looked_up (get_by_text c.args.self.now.lists text)) (sym c.as_str.ensures.value)
+    ∙ ap looked_up (sym c.get.ensures.value ∙ ap option_copied c.in-None.is)
 
 -- ---- what is kept
 
-pub returns-in_ok-give-in-Use-clause-kept : goal.returns-in_ok-give-in-Use-clause-kept
-returns-in_ok-give-in-Use-clause-kept c = λ before line has.
-    on_ok_weaker c.keep.result (λ adds.
-    kept before line c.args.command.now _ c.args.self.now _ has c.in-Use.is (adds_one _ _ c.in-Use.name _ c.deref-in-Use.ensures c.in_ok-give-in-Use.ensures.kept, adds_one _ _ c.in-Use.path _ c.deref-in-Use-2.ensures adds, refl)) c.keep.ensures.kept
+pub returns-in_ok-keep-in-Use-clause-kept : goal.returns-in_ok-keep-in-Use-clause-kept
+returns-in_ok-keep-in-Use-clause-kept c = λ before line has.
+    kept before line c.args.command.now _ c.args.self.now _ has c.in-Use.is (rw c.deref-in-Use.ensures at (c.in_ok-list-in-Use.ensures.kept _ has.lists)) (adds_one _ _ c.in-Use.path _ c.deref-in-Use-2.ensures c.in_ok-keep-in-Use.ensures.kept) refl
 
-pub returns-in-Save-clause-kept : goal.returns-in-Save-clause-kept
-returns-in-Save-clause-kept c = λ before line has.
-    on_ok_weaker c.give-in-Save.result (λ adds.
-    kept before line c.args.command.now _ c.args.self.now _ has c.in-Save.is (adds_one _ _ c.in-Save.name _ c.deref-in-Save.ensures adds, refl, refl)) c.give-in-Save.ensures.kept
+pub returns-in_ok-give_list-in-Save-clause-kept : goal.returns-in_ok-give_list-in-Save-clause-kept
+returns-in_ok-give_list-in-Save-clause-kept c = λ before line has.
+    kept before line c.args.command.now _ c.args.self.now _ has c.in-Save.is (rw c.deref-in-Save.ensures at (c.in_ok-give_list-in-Save.ensures.kept _ has.lists)) refl refl
 
-pub returns-in_ok-once-in-Snapshot-clause-kept : goal.returns-in_ok-once-in-Snapshot-clause-kept
-returns-in_ok-once-in-Snapshot-clause-kept c = λ before line has.
-    on_ok_weaker c.give-in-Snapshot.result (λ adds.
-    kept before line c.args.command.now _ c.args.self.now _ has c.in-Snapshot.is (refl, refl, adds_one _ _ c.in-Snapshot.path _ c.deref-in-Snapshot-2.ensures adds)) c.give-in-Snapshot.ensures.kept
+pub returns-in-Some-clause-kept : goal.returns-in-Some-clause-kept
+returns-in-Some-clause-kept c = λ before line has. nothing_kept before line c.args.command.now _ c.args.self.now has c.in-Act.is refl refl refl
 
-pub returns-else-not-contains-clause-kept : goal.returns-else-not-contains-clause-kept
-returns-else-not-contains-clause-kept c = λ before line has.
-    use_kept before line c.args.command.now c.in-Add.name c.args.self.now has c.in-Add.is
+pub returns-in_ok-keep-in-Snapshot-clause-kept : goal.returns-in_ok-keep-in-Snapshot-clause-kept
+returns-in_ok-keep-in-Snapshot-clause-kept c = λ before line has.
+    kept before line c.args.command.now _ c.args.self.now _ has c.in-Snapshot.is (same_places _ _ has.lists) refl (adds_one _ _ c.in-Snapshot.path _ c.deref-in-Snapshot-3.ensures c.in_ok-keep-in-Snapshot.ensures.kept)
 
 pub returns-in-Clear-clause-kept : goal.returns-in-Clear-clause-kept
-returns-in-Clear-clause-kept c = λ before line has. nothing_kept before line c.args.command.now c.args.self.now has c.in-Clear.is
+returns-in-Clear-clause-kept c = λ before line has. none_kept before line c.args.command.now c.args.self.now has c.in-Clear.is
 
 pub returns-in-Clear-2-clause-kept : goal.returns-in-Clear-2-clause-kept
-returns-in-Clear-2-clause-kept c = λ before line has. nothing_kept before line c.args.command.now c.args.self.now has c.in-Clear.is
+returns-in-Clear-2-clause-kept c = λ before line has. none_kept before line c.args.command.now c.args.self.now has c.in-Clear.is
 
 pub returns-in-Clear-3-clause-kept : goal.returns-in-Clear-3-clause-kept
-returns-in-Clear-3-clause-kept c = λ before line has. nothing_kept before line c.args.command.now c.args.self.now has c.in-Clear.is
+returns-in-Clear-3-clause-kept c = λ before line has. none_kept before line c.args.command.now c.args.self.now has c.in-Clear.is
