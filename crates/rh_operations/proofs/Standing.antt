@@ -11,8 +11,8 @@ use Rattle.rh_ledger.specs.Phase.{set_after, tally_of}
 use Rattle.rh_report.specs.declared.lines.Change.TheVariants.{Added}
 use Rattle.rh_runner.specs.Lists.{Took}
 use Rattle.rh_shelf.specs.Shelf.{Files}
-use Rattle.rh_operations.specs.declared.action.Action.{Action}
-use Rattle.rh_operations.specs.declared.action.Action.TheVariants.{Add, Drop, Keep, Flip, Ask}
+use Rattle.rh_script.specs.declared.action.Action.{Action}
+use Rattle.rh_script.specs.declared.action.Action.TheVariants.{Add, Drop, Keep, Flip, Ask}
 use Rattle.rh_operations.specs.declared.cause.Cause.{Cause}
 use Rattle.rh_operations.specs.declared.key_lists.KeyList.{KeyList}
 use Rattle.rh_operations.specs.Actions.{Changed, Made, made_of, means, room_for, table}

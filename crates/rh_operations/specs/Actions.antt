@@ -12,10 +12,10 @@ use Rattle.rh_runner.specs.declared.chosen.Chosen.TheVariants.{Absent, Present}
 use Rattle.rh_runner.specs.Lists.{chosen}
 use Rattle.rh_report.specs.declared.lines.Change.{Change}
 use Rattle.rh_report.specs.declared.lines.Change.TheVariants.{Added, Dropped, Kept, Flipped}
-use Rattle.rh_operations.specs.declared.action.Action.{Action}
-use Rattle.rh_operations.specs.declared.action.Action.TheVariants.{Add, Drop, Keep, Flip, Ask}
-use Rattle.rh_operations.specs.declared.action.Done.{Done}
-use Rattle.rh_operations.specs.declared.action.Done.TheVariants as done
+use Rattle.rh_script.specs.declared.action.Action.{Action}
+use Rattle.rh_script.specs.declared.action.Action.TheVariants.{Add, Drop, Keep, Flip, Ask}
+use Rattle.rh_operations.specs.declared.done.Done.{Done}
+use Rattle.rh_operations.specs.declared.done.Done.TheVariants as done
 use Rattle.rh_operations.specs.declared.cause.Cause.{Cause}
 use Rattle.rh_operations.specs.Found.{count_again, keys_found, still}
 use Rattle.rh_operations.specs.Sets.{flipped, kept}

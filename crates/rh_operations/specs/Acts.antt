@@ -4,7 +4,7 @@ use Rattle.rh_edit.specs.Held.{Held}
 use Rattle.rh_key_files.specs.declared.fault.KeyFault.{KeyFault}
 use Rattle.rh_key_files.specs.Source.{Coming}
 use Rattle.rh_runner.specs.Lists.{Took}
-use Rattle.rh_operations.specs.declared.action.Done.{Done}
+use Rattle.rh_operations.specs.declared.done.Done.{Done}
 use Rattle.rh_operations.specs.declared.cause.Cause.{Cause}
 use Rattle.rh_operations.specs.Actions.{Made, telling}
 use Rattle.rh_operations.specs.Leaves.{KeepsRunner}

@@ -25,8 +25,8 @@
 //!   by one.
 #![tactic(auto)]
 
-mod action;
 mod cause;
+mod done;
 mod key_lists;
 mod laws;
 mod opening;
@@ -35,8 +35,8 @@ mod sets;
 mod size;
 mod snapshots;
 
-pub use action::{Action, Done};
 pub use cause::Cause;
+pub use done::Done;
 pub use key_lists::{KeyList, Source};
 pub use laws::one_size;
 pub use operations::{operate, saved, use_file};

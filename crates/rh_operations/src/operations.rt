@@ -13,8 +13,8 @@ ghost use Rattle.rh_operations.specs.Leaves.{Leaves, UsesShelf};
 ghost use Rattle.rh_operations.specs.Outside.{outside};
 ghost use Rattle.rh_operations.specs.Refusals.{ListFails, PhaseFails, RefusedBy, WantedAfter};
 
-use crate::action::{Action, Done};
 use crate::cause::Cause;
+use crate::done::Done;
 use crate::key_lists::{KeyList, Source};
 use crate::opening::{blame_reader, open_file, open_list};
 use crate::sets::{add_keys, ask_keys, drop_keys, flip_keys, keep_keys};
@@ -22,6 +22,7 @@ use rh_bytes::Counted;
 use rh_edit::SeqSet;
 use rh_key_files::{KeySource, open_keys, write_keys};
 use rh_runner::{Runner, read_through};
+use rh_script::Action;
 use rh_shelf::Lender;
 use std::alloc::Global;
 use std::sync::Wait;

@@ -10,13 +10,13 @@ ghost use Rattle.rh_ledger.specs.declared.tally.Kind.TheVariants.{Insert, Remove
 ghost use Rattle.rh_runner.specs.Lists.{Took};
 ghost use Rattle.rh_operations.specs.Actions.{means, room_for};
 ghost use Rattle.rh_operations.specs.Acts.{Acts};
-ghost use Rattle.rh_operations.specs.declared.action.Action.TheVariants.{Add, Drop, Keep, Flip, Ask};
+ghost use Rattle.rh_script.specs.declared.action.Action.TheVariants.{Add, Drop, Keep, Flip, Ask};
 ghost use Rattle.rh_operations.specs.Leaves.{KeepsRunner};
 ghost use Rattle.rh_operations.specs.Refusals.{FaultOn, IsOfKeys, IsOfPhase, RefusedBy, StartFails, TellsKeys};
 ghost use Rattle.rh_operations.specs.Size.{size_for};
 
-use crate::action::Done;
 use crate::cause::Cause;
+use crate::done::Done;
 use crate::size::{copied, grown};
 use rh_edit::SeqSet;
 use rh_key_files::KeySource;

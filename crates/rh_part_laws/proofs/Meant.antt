@@ -5,12 +5,13 @@ use Rattle.std.specs.Str.{bytes_eq}
 use Rattle.rh_layout.specs.Layout.{Keys}
 use Rattle.rh_edit.specs.Held.{Held}
 use Rattle.rh_edit.specs.Rising.{rising_keys}
-use Rattle.rh_ledger.specs.declared.tally.Kind.TheVariants.{Insert, Remove}
-use Rattle.rh_ledger.specs.Phase.{set_after}
-use Rattle.rh_script.specs.Instruction.{Instruction, Numbered, Use, Add, Drop, Ask, Keep, Flip, Save, Clear, Dump, Snapshot, Restore}
+use Rattle.rh_script.specs.Instruction.{Instruction, Numbered, Use, Act, Save, Clear, Dump, Snapshot, Restore}
 use Rattle.rh_report.specs.Account.{Account}
 use Rattle.rh_operations.specs.declared.cause.Cause.{Cause}
-use Rattle.rh_operations.specs.Sets.{flipped, kept}
+use Rattle.rh_script.specs.declared.action.Action.{Action}
+use Rattle.rh_script.specs.declared.action.Action.TheVariants.{Add, Drop, Keep, Flip, Ask}
+use Rattle.rh_operations.specs.Actions.{Telling, means}
+use Rattle.rh_operations.specs.Sets.{held_after}
 use Rattle.rh_operations.specs.Size.{size_for}
 use Rattle.rh_shelf.specs.Shelf.{Files}
 use Rattle.rh_script_run.specs.declared.report.Report.{Report}
@@ -50,6 +51,20 @@ its_keys true put file table S T is other found = sym (ap (λ r. keys_in r) foun
     keys_in (Err cause) = S
 its_keys false put file table S T is other found = other found
 
+-- ---- an action
+
+abbrev keys_of_made : Keys → Result (Held × Telling) Cause → Keys
+keys_of_made other (Ok made) = made.0.keys
+keys_of_made other (Err cause) = other
+
+-- the keys that are held once it has made something
+means_held : (action : Action) (t : Held) (keys : List ℕ) (made : Held × Telling) → means action t keys ≡ Ok made → made.0.keys ≡ held_after action t.keys keys
+means_held Add t keys made is = let s = then_ok (size_for _ _) _ made is in sym (ap (keys_of_made t.keys) s.2)
+means_held Drop t keys made is = sym (ap (keys_of_made t.keys) is)
+means_held Keep t keys made is = let s = then_ok (size_for _ _) _ made is in sym (ap (keys_of_made t.keys) s.2)
+means_held Flip t keys made is = let s = then_ok (size_for _ _) _ made is in sym (ap (keys_of_made t.keys) s.2)
+means_held Ask t keys made is = sym (ap (keys_of_made t.keys) is)
+
 -- ---- a command
 
 module _ (w : ScriptState) (s : State) (has : Has w s) where
@@ -77,17 +92,10 @@ module _ (w : ScriptState) (s : State) (has : Has w s) where
   after_one (Use name path) done is =
       let t = then_ok (keys_at_path (w.files path)) _ done is in
       of_done _ _ done t.2 (now_named name t.0 (s.files path) (has.files path t.0 t.1))
-  after_one (Add name) done is =
-      let t = then_ok (size_for _ _) _ done is in
-      of_done _ _ done t.2 (now_held _ _ t.0 (λ i. set_after Insert (has.held i) (list_of name (has.lists i))))
-  after_one (Drop name) done is = of_done _ _ done is (now_held _ _ w.bits (λ i. set_after Remove (has.held i) (list_of name (has.lists i))))
-  after_one (Ask name) done is = of_done _ _ done is has
-  after_one (Keep name) done is =
-      let t = then_ok (size_for _ _) _ done is in
-      of_done _ _ done t.2 (now_held _ _ t.0 (λ i. kept (has.held i) (list_of name (has.lists i))))
-  after_one (Flip name) done is =
-      let t = then_ok (size_for _ _) _ done is in
-      of_done _ _ done t.2 (now_held _ _ t.0 (λ i. flipped (has.held i) (list_of name (has.lists i))))
+  after_one (Act action name) done is =
+      let keys = list_of name w.lists in
+      let t = then_ok (means action (held_table w) keys) _ done is in
+      of_done _ _ done t.2 (now_held _ _ t.0.0.bits (means_held action (held_table w) keys t.0 t.1 ∙ (λ i. held_after action (has.held i) (list_of name (has.lists i)))))
   after_one (Save name) done is = of_done _ _ done is (now_named name (rising_keys w.held) (rising_keys s.held) (ap rising_keys has.held))
   after_one Clear done is = of_done _ _ done is (now_held set.empty set.empty _ refl)
   after_one Dump done is = of_done _ _ done is has

@@ -6,11 +6,11 @@ use Rattle.std.specs.Str.{bytes_eq}
 use Rattle.std.specs.Map.{lookup}
 use Rattle.rh_layout.specs.Layout.{Keys}
 use Rattle.rh_edit.specs.Rising.{rising_keys}
-use Rattle.rh_ledger.specs.declared.tally.Kind.TheVariants.{Insert, Remove}
-use Rattle.rh_ledger.specs.Phase.{set_after}
 use Rattle.rh_combine.proofs.Rising.{rising_of_part}
-use Rattle.rh_script.specs.Instruction.{Instruction, Use, Add, Drop, Ask, Keep, Flip, Save, Clear, Dump, Snapshot, Restore}
-use Rattle.rh_operations.specs.Sets.{flipped, kept}
+use Rattle.rh_script.specs.Instruction.{Instruction, Use, Act, Save, Clear, Dump, Snapshot, Restore}
+use Rattle.rh_script.specs.declared.action.Action.{Action}
+use Rattle.rh_script.specs.declared.action.Action.TheVariants.{Add, Drop, Keep, Flip, Ask}
+use Rattle.rh_operations.specs.Sets.{held_after}
 use Rattle.rh_script_run.specs.Meaning.{list_of}
 use Rattle.rh_part_laws.specs.Commands.{State, after, after_all, cut, cut_list, with_held, with_name}
 use Rattle.rh_part_laws.proofs.Cutting.{flipped_only, inserted, kept_only, none_held, removed}
@@ -32,6 +32,13 @@ module _ (passes : ℕ → Bool) where
 
   -- ---- a command
 
+  acted : (action : Action) (S : Keys) (keys : List ℕ) → set.retain (held_after action S keys) passes ≡ held_after action (set.retain S passes) (filter passes keys)
+  acted Add S keys = inserted passes S keys
+  acted Drop S keys = removed passes S keys
+  acted Keep S keys = kept_only passes S keys
+  acted Flip S keys = flipped_only passes S keys
+  acted Ask S keys = refl
+
   of_either : (b : Bool) (S T : Keys) → set.retain (cond b S T) passes ≡ cond b (set.retain S passes) (set.retain T passes)
   of_either true S T = refl
   of_either false S T = refl
@@ -45,14 +52,8 @@ module _ (passes : ℕ → Bool) where
 
     cut_after : (command : Instruction) → cut passes (after s command) ≡ after (cut passes s) command
     cut_after (Use name path) = now_named name (s.files path)
-    cut_after (Add name) =
-        now_held _ _ (inserted passes s.held (list_of name s.lists) ∙ ap (λ l. set_after Insert (set.retain s.held passes) l) (of_name name s.lists))
-    cut_after (Drop name) =
-        now_held _ _ (removed passes s.held (list_of name s.lists) ∙ ap (λ l. set_after Remove (set.retain s.held passes) l) (of_name name s.lists))
-    cut_after (Ask name) = refl
-    cut_after (Keep name) = now_held _ _ (kept_only passes s.held (list_of name s.lists) ∙ ap (λ l. kept (set.retain s.held passes) l) (of_name name s.lists))
-    cut_after (Flip name) =
-        now_held _ _ (flipped_only passes s.held (list_of name s.lists) ∙ ap (λ l. flipped (set.retain s.held passes) l) (of_name name s.lists))
+    cut_after (Act action name) =
+        now_held _ _ (acted action s.held (list_of name s.lists) ∙ ap (λ l. held_after action (set.retain s.held passes) l) (of_name name s.lists))
     cut_after (Save name) = now_named name (rising_keys s.held) ∙ ap (λ l. with_name (cut passes s) name l) (sym (rising_of_part passes s.held))
     cut_after Clear = now_held _ _ (none_held passes)
     cut_after Dump = refl

@@ -5,10 +5,8 @@ use Rattle.std.specs.FinSet as set
 use Rattle.std.specs.Str.{bytes_eq}
 use Rattle.rh_layout.specs.Layout.{Keys}
 use Rattle.rh_edit.specs.Rising.{rising_keys}
-use Rattle.rh_ledger.specs.declared.tally.Kind.TheVariants.{Insert, Remove}
-use Rattle.rh_ledger.specs.Phase.{set_after}
-use Rattle.rh_script.specs.Instruction.{Instruction, Use, Add, Drop, Ask, Keep, Flip, Save, Clear, Dump, Snapshot, Restore}
-use Rattle.rh_operations.specs.Sets.{flipped, kept}
+use Rattle.rh_script.specs.Instruction.{Instruction, Use, Act, Save, Clear, Dump, Snapshot, Restore}
+use Rattle.rh_operations.specs.Sets.{held_after}
 use Rattle.rh_script_run.specs.Meaning.{list_of}
 
 -- The keys that are held, the lists by their names in the order in which they were given, and by their paths the lists in key
@@ -30,14 +28,10 @@ with_name s name keys = record s { lists = s.lists ++ (name, keys) ∷ [] }
 abbrev pub with_snapshot : State → (path : List ℕ) → Keys → State
 with_snapshot s path S = record s { snapshots = λ other. if bytes_eq path other then S else s.snapshots other }
 
--- after a command, of which `ask` and `dump` only tell what there is
+-- after a command, of which `dump` only tells what there is
 abbrev pub after : State → Instruction → State
 after s (Use name path) = with_name s name (s.files path)
-after s (Add name) = with_held s (set_after Insert s.held (list_of name s.lists))
-after s (Drop name) = with_held s (set_after Remove s.held (list_of name s.lists))
-after s (Ask name) = s
-after s (Keep name) = with_held s (kept s.held (list_of name s.lists))
-after s (Flip name) = with_held s (flipped s.held (list_of name s.lists))
+after s (Act action name) = with_held s (held_after action s.held (list_of name s.lists))
 after s (Save name) = with_name s name (rising_keys s.held)
 after s Clear = with_held s set.empty
 after s Dump = s

@@ -25,7 +25,7 @@ pub use rh_faulty::{FaultyShelf, ShelfFailure};
 pub use rh_key_files::{Counted, KeyFault, WriteFault, write_keys};
 pub use rh_runner::{PhaseFault, Runner, Single};
 pub use rh_script::{
-    Command, Plan, PlannedStep, Script, ScriptFault, ScriptFaultKind, Step, Task, parse, plan,
+    Action, Command, Plan, Script, ScriptFault, ScriptFaultKind, Step, parse, plan,
 };
 pub use rh_script_run::{
     Cause, Report, RunFault, ends_as_meant, only_what_is_read_matters, run, run_twice, runs_agree,

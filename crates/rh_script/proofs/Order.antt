@@ -1,10 +1,10 @@
 -- What the grammar reads is in order.
-use Rattle.std.proofs.Common.{◌≡◌, ◌∙◌, ◌⊎◌, inl, inr, ap, sym, subst, ℕ, ◌+◌, List, [], ◌∷◌, ◌++◌, Option, Some, None, Result, Ok, Err, is_ok, refl}
+use Rattle.std.proofs.Common.{◌≡◌, ◌∙◌, ◌⊎◌, inl, inr, ap, sym, subst, ℕ, ◌+◌, List, [], ◌∷◌, ◌++◌, Option, Some, None, Result, Ok, Err, is_ok, true, false, refl}
 use Rattle.std.proofs.lemmas.Bool.{or_parts}
 use Rattle.rh_script.specs.declared.fault.ScriptFaultKind.{ScriptFaultKind}
-use Rattle.rh_script.specs.Instruction.{Instruction, Numbered}
+use Rattle.rh_script.specs.Instruction.{Instruction, Numbered, Snapshot}
 use Rattle.rh_lines.specs.Lines.{lines_of, without_return}
-use Rattle.rh_script.specs.Names.{InOrder, SnapshotsAreNew, admitted, files_in, is_given, snapshots_in}
+use Rattle.rh_script.specs.Names.{InOrder, admitted, files_in, is_given, snapshots_in}
 use Rattle.rh_script.specs.Grammar.{after_line, entered, said_in, script_grammar, script_of, within_limits}
 use Rattle.rh_lines.specs.Grammar.{after_lines, at_line}
 use Rattle.rh_lines.proofs.Reading.{both}
@@ -79,10 +79,11 @@ lines_in_order number before steps (line ∷ lines) ordered h =
 pub read_in_order : (text : List ℕ) (steps : List Numbered) → script_of text ≡ Ok steps → InOrder steps
 read_in_order text steps h = lines_in_order 1 [] steps (lines_of text) no_step h
 
--- ---- what the order says of snapshots
+-- ---- what the order says of a step
 
-pub snapshots_are_new : (steps : List Numbered) → InOrder steps → SnapshotsAreNew steps
+-- a snapshot is put under a path that no earlier step reads keys from
+pub snapshot_is_new : (before : List Numbered) (said : Instruction) (path : List ℕ) → is_ok (admitted before said) ≡ true → said ≡ Snapshot path → is_given path (files_in before) ≡ false
 unfolding admitted
-snapshots_are_new steps ordered before after step path parts said =
-    or_parts (is_given path (files_in before)) (is_given path (snapshots_in before))
-    (may_stand_once _ (sym (ap (λ i. is_ok (admitted before i)) said) ∙ ordered before after step parts))
+snapshot_is_new before said path ok is =
+    (or_parts (is_given path (files_in before)) (is_given path (snapshots_in before))
+    (may_stand_once _ (sym (ap (λ i. is_ok (admitted before i)) is) ∙ ok))).0

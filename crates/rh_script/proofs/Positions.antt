@@ -1,5 +1,5 @@
 -- The places of the names that are given.
-use Rattle.std.proofs.Common.{◌≡◌, ◌∙◌, ap, sym, ℕ, ◌+◌, ◌<◌, Bool, true, false, List, [], ◌∷◌, ◌++◌, length, length-append, Option, Some, None, is_some, Result, Ok, Err, String, inl, inr, refl, arith}
+use Rattle.std.proofs.Common.{◌≡◌, ◌∙◌, ap, sym, ℕ, ◌+◌, ◌<◌, Bool, true, false, List, [], ◌∷◌, ◌++◌, length, length-append, Option, Some, None, is_ok, is_some, Result, Ok, Err, String, inl, inr, refl, arith}
 use Rattle.std.specs.Global.{Global}
 use Rattle.std.specs.BTreeMap.{BTreeMap, btree_map_len, get_by_text}
 use Rattle.std.specs.List.{list_any, position_or_len}
@@ -102,3 +102,11 @@ places_kept lists new given name number fresh has next more updated = record {
             kept ∙ has.places other ∙ sym (place_stays other name given differ)
       ];
 }
+
+-- ---- a name that may be used
+
+pub has_place : (name : List ℕ) (given : List (List ℕ)) → is_ok (known (is_given name given)) ≡ true → position_of name given ≡ None → ⊥
+has_place name given ok none =
+    let unknown : is_given name given ≡ false = is_there name given ∙ ap is_some none in
+    let no : is_ok (known false) ≡ true = rw unknown at ok in
+    absurd cc

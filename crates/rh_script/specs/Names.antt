@@ -1,5 +1,5 @@
 -- What a script's steps give: names to lists, and paths to files.
-use Rattle.std.specs.Prelude.{◌≡◌, ℕ, Bool, false, ◌||◌, IsTrue, if◌then◌else◌, List, [], ◌∷◌, ◌++◌, Result, Ok, Err, is_ok}
+use Rattle.std.specs.Prelude.{◌≡◌, ℕ, Bool, ◌||◌, IsTrue, if◌then◌else◌, List, [], ◌∷◌, ◌++◌, Result, Ok, Err, is_ok}
 use Rattle.std.specs.Str.{bytes_eq}
 use Rattle.std.specs.List.{flat_map, list_any}
 use Rattle.rh_script.specs.declared.fault.ScriptFaultKind.{ScriptFaultKind}
@@ -63,10 +63,3 @@ abbrev pub InOrder : List Numbered → Type 0
 InOrder steps =
     (before after : List Numbered) (step : Numbered) → steps ≡ before ++ step ∷ after
     → IsTrue (is_ok (admitted before step.instruction))
-
--- no snapshot is put under a path that an earlier step reads keys from, or puts a snapshot under
-abbrev pub SnapshotsAreNew : List Numbered → Type 0
-SnapshotsAreNew steps =
-    (before after : List Numbered) (step : Numbered) (path : List ℕ) → steps ≡ before ++ step ∷ after
-    → step.instruction ≡ Snapshot path
-    → (is_given path (files_in before) ≡ false) × (is_given path (snapshots_in before) ≡ false)

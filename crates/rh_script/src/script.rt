@@ -39,14 +39,14 @@ pub struct Script {
 }
 
 impl Script {
-    ghost use Rattle.rh_script.specs.Names.{SnapshotsAreNew};
+    ghost use Rattle.rh_script.specs.Names.{InOrder};
     ghost use Rattle.rh_script.specs.Script.{steps_of};
 
     /// Its commands, in order.
     pub fn steps(&self) -> &[Step]
         ensures steps { map step_as result.now ≡ steps_of self.now }
         ensures numbered { map planned_as result.now ≡ plan_of (steps_of self.now) }
-        ensures snapshots { SnapshotsAreNew (steps_of self.now) }
+        ensures in_order { InOrder (steps_of self.now) }
     {
         &self.steps
     }

@@ -3,7 +3,7 @@
 -- FileLemmas: the files of a script's world, and what stands at the paths of a shelf.
 -- ListLemmas: the lists that have a name.
 -- StepLemmas: how a step ends.
--- TaskLemmas: from a step to what is left of the script's state.
+-- StateLemmas: from a step to what is left of the script's state.
 -- RunLemmas: a script step by step.
 -- UniqueLemmas: some accounts have one text, and the files of a script's world one map of bytes.
 -- MadeLemmas: what steps make up to the first that is refused.
@@ -15,7 +15,7 @@
 pub mod FileLemmas
 pub mod StepLemmas
 pub mod ListLemmas
-pub mod TaskLemmas
+pub mod StateLemmas
 pub mod RunLemmas
 pub mod UniqueLemmas
 pub mod MadeLemmas

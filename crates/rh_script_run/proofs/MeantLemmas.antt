@@ -10,7 +10,7 @@ use Rattle.rh_snapshot.specs.declared.fault.SnapFault.TheVariants as snap_faults
 use Rattle.rh_snapshot.specs.declared.version.Version.TheVariants.{Second}
 use Rattle.rh_snapshot.specs.Snapshot.{snap_spelling}
 use Rattle.rh_bytes.specs.Input.{◌>>=◌}
-use Rattle.rh_script.specs.Instruction.{Instruction, Numbered, Use, Add, Drop, Ask, Keep, Flip, Save, Clear, Dump, Snapshot, Restore}
+use Rattle.rh_script.specs.Instruction.{Instruction, Numbered, Use, Act, Save, Clear, Dump, Snapshot, Restore}
 use Rattle.rh_shelf.specs.Shelf.{Files}
 use Rattle.rh_operations.specs.declared.cause.Cause.{Cause}
 use Rattle.rh_operations.specs.declared.cause.Cause.TheVariants as causes
@@ -65,11 +65,7 @@ module _ (old new : Outside) (lacks : Type 0) where
 
   not_outside : (said : Instruction) (cause : Cause) → Found cause → IsOutside said old new cause → IsLack cause
   not_outside (Use name path) cause found out = list_found cause found out
-  not_outside (Add name) cause found out = phase_found cause found out
-  not_outside (Drop name) cause found out = phase_found cause found out
-  not_outside (Ask name) cause found out = phase_found cause found out
-  not_outside (Keep name) cause found out = phase_found cause found out
-  not_outside (Flip name) cause found out = phase_found cause found out
+  not_outside (Act action name) cause found out = phase_found cause found out
   not_outside (Save name) cause found out = memory_found cause found out
   not_outside Clear cause found out = memory_found cause found out
   not_outside Dump cause found out = absurd out

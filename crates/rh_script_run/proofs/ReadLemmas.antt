@@ -1,29 +1,23 @@
 -- Only what a script reads of the files matters.
-use Rattle.std.proofs.Common.{◌≡◌, ◌∙◌, ap, sym, subst, refl, ℕ, ◌+◌, cond, List, [], ◌∷◌, length, Option, Some, None, option_map, Result, Ok, Err}
+use Rattle.std.proofs.Common.{◌≡◌, ◌∙◌, ap, sym, subst, refl, ℕ, cond, List, [], ◌∷◌, length, Option, Some, None, option_map, Result, Ok, Err}
 use Rattle.std.specs.FinSet as set
 use Rattle.std.specs.Str.{bytes_eq}
 use Rattle.std.specs.Io.KnownBytes.{Appends}
-use Rattle.rh_layout.specs.Layout.{Keys}
-use Rattle.rh_layout.specs.declared.limits.TheConstants.{MIN_BITS}
-use Rattle.rh_edit.specs.Held.{Held}
-use Rattle.rh_ledger.specs.declared.tally.Kind.TheVariants.{Insert, Remove}
-use Rattle.rh_ledger.specs.Phase.{set_after, tally_of}
-use Rattle.rh_runner.specs.declared.chosen.Chosen.TheVariants.{Absent, Present}
-use Rattle.rh_runner.specs.Lists.{chosen}
-use Rattle.rh_script.specs.Instruction.{Instruction, Numbered, Use, Add, Drop, Ask, Keep, Flip, Save, Clear, Dump, Snapshot, Restore}
+use Rattle.rh_script.specs.Instruction.{Instruction, Numbered, Use, Act, Save, Clear, Dump, Snapshot, Restore}
 use Rattle.rh_shelf.specs.Shelf.{Files}
 use Rattle.rh_report.specs.Account.{Account}
 use Rattle.rh_report.specs.Account as accounts
 use Rattle.rh_operations.specs.declared.cause.Cause.{Cause}
 use Rattle.rh_bytes.specs.Input.{◌>>=◌}
-use Rattle.rh_operations.specs.Size.{size_for}
+use Rattle.rh_operations.specs.Actions.{means}
 use Rattle.rh_script_run.specs.declared.fault.RunFault.{RunFault}
 use Rattle.rh_script_run.specs.declared.report.Report.{Report}
 use Rattle.rh_script_run.specs.Agree.{AllReadWhere, AppendSame, EndsByItself, IsSameAt, ReadsWhere, StaysSame, result_of}
 use Rattle.rh_script_run.specs.Ends.{Ends, SaysAll}
 use Rattle.rh_script_run.specs.Environment.{Environment}
 use Rattle.rh_script_run.specs.Files.{Bytes, FileMap, HasFiles, IsFile, Sealed, given_files, with_snapshot}
-use Rattle.rh_script_run.specs.Meaning.{Outcome, ScriptState, outcome_at, keys_at_path, list_of, meaning, with_list, outcome_of, start, table_at, held_table}
+use Rattle.rh_script_run.specs.Meaning.{Outcome, ScriptState, outcome_at, keys_at_path, list_of, meaning, with_list, with_table, outcome_of, start, table_at, held_table}
+use Rattle.rh_script_run.specs.Told.{account_of}
 use Rattle.rh_script_run.proofs.RunLemmas.{Course}
 use Rattle.rh_script_run.proofs.UniqueLemmas.{one_found, one_text_of_all}
 use Rattle.rh_script_run.proofs.MadeLemmas.{Made, made_by, made_further}
@@ -48,17 +42,6 @@ module _ (P : List ℕ → Type 0) where
   then_same (Err cause) r' make make' same each = ap (λ x. x >>= make') same
 
   module _ (w : ScriptState) (g : FileMap) (same : Same w.files g) where
-    -- a set in a table of another size
-    abbrev sized : ScriptState → (held : Keys) → (bits : ℕ) → ScriptState
-    sized v held bits = record { held = held; bits = bits; lists = v.lists; files = v.files }
-
-    sized_same : (size : Result ℕ Cause) (held : Keys) (account : ℕ → Account) → SameOutcome (size >>= (λ bits. Ok (sized w held bits, account bits))) (size >>= (λ bits. Ok (sized (with_files w g) held bits, account bits)))
-    sized_same (Ok bits) held account = (g, refl, same)
-    sized_same (Err cause) held account = refl
-
-    abbrev restored : ScriptState → Held → ScriptState
-    restored v table = sized v table.keys table.bits
-
     outcome_same : (said : Instruction) → ReadsWhere P said → SameOutcome (outcome_of w said) (outcome_of (with_files w g) said)
     unfolding outcome_of
     outcome_same (Use name path) reads =
@@ -66,17 +49,13 @@ module _ (P : List ℕ → Type 0) where
         (λ x. Ok (with_list w name x, accounts.Used name (length x)))
         (λ x. Ok (with_list (with_files w g) name x, accounts.Used name (length x)))
         (ap keys_at_path (same path reads)) (λ x. (g, refl, same))
-    outcome_same (Add name) reads =
-        sized_same (size_for w.bits (set.len w.held + length (list_of name w.lists))) (set_after Insert w.held (list_of name w.lists))
-        (λ x. accounts.Added name (length (list_of name w.lists)) (tally_of Insert w.held (list_of name w.lists)).added (set.len (set_after Insert w.held (list_of name w.lists))) x)
-    outcome_same (Drop name) reads = (g, refl, same)
-    outcome_same (Ask name) reads = (g, refl, same)
-    outcome_same (Keep name) reads =
-        sized_same (size_for MIN_BITS (length (chosen Present w.held (list_of name w.lists)))) (set_after Insert set.empty (chosen Present w.held (list_of name w.lists)))
-        (λ x. accounts.Kept name (length (list_of name w.lists)) (length (chosen Present w.held (list_of name w.lists))) (set.len (set_after Insert set.empty (chosen Present w.held (list_of name w.lists)))) x)
-    outcome_same (Flip name) reads =
-        sized_same (size_for w.bits (set.len (set_after Remove w.held (list_of name w.lists)) + length (chosen Absent w.held (list_of name w.lists)))) ((set_after Insert (set_after Remove w.held (list_of name w.lists)) (chosen Absent w.held (list_of name w.lists))))
-        (λ x. accounts.Flipped name (length (list_of name w.lists)) (tally_of Remove w.held (list_of name w.lists)).removed (tally_of Insert (set_after Remove w.held (list_of name w.lists)) (chosen Absent w.held (list_of name w.lists))).added (set.len (set_after Insert (set_after Remove w.held (list_of name w.lists)) (chosen Absent w.held (list_of name w.lists)))) x)
+    outcome_same (Act action name) reads =
+        let keys = list_of name w.lists in
+        let made = means action (held_table w) keys in
+        then_same made made
+        (λ x. Ok (with_table w x.0, account_of name (length keys) x.0 x.1))
+        (λ x. Ok (with_table (with_files w g) x.0, account_of name (length keys) x.0 x.1))
+        refl (λ x. (g, refl, same))
     outcome_same (Save name) reads = (g, refl, same)
     outcome_same Clear reads = (g, refl, same)
     outcome_same Dump reads = (g, refl, same)
@@ -84,8 +63,8 @@ module _ (P : List ℕ → Type 0) where
         (with_snapshot g path (held_table w), refl, λ other has. ap (λ f. cond (bytes_eq path other) (Some (Sealed (held_table w))) f) (same other has))
     outcome_same (Restore path) reads =
         then_same (table_at (w.files path)) (table_at (g path))
-        (λ x. Ok (restored w x, accounts.Restored path (set.len x.keys) x.bits))
-        (λ x. Ok (restored (with_files w g) x, accounts.Restored path (set.len x.keys) x.bits))
+        (λ x. Ok (with_table w x, accounts.Restored path (set.len x.keys) x.bits))
+        (λ x. Ok (with_table (with_files w g) x, accounts.Restored path (set.len x.keys) x.bits))
         (ap table_at (same path reads)) (λ x. (g, refl, same))
 
   -- the other run has other files, and these at most elsewhere

@@ -1,20 +1,20 @@
 -- A script step by step.
-use Rattle.std.proofs.Common.{◌≡◌, ◌∙◌, ap, sym, subst, refl, arith, false, ℕ, zero, suc, ◌+◌, ◌<◌, ◌≤◌, List, [], ◌∷◌, ◌++◌, length, take, drop, get_or, append_assoc, append-nil, Some, Result, Ok, Err}
+use Rattle.std.proofs.Common.{◌≡◌, ◌∙◌, ap, sym, subst, refl, arith, true, false, is_ok, ℕ, zero, suc, ◌+◌, ◌<◌, ◌≤◌, List, [], ◌∷◌, ◌++◌, length, take, drop, get_or, append_assoc, append-nil, Option, Some, None, Result, Ok, Err, string_bytes}
 use Rattle.std.proofs.Common.{slice_index_or, take-append-drop}
 use Rattle.std.proofs.lemmas.List.{take_all, take_more, length-append, length-map}
 use Rattle.std.proofs.lemmas.Grind.{flat_map-append}
 use Rattle.std.specs.Prelude.{map}
 use Rattle.std.specs.FinSet as finset
 use Rattle.rh_layout.specs.declared.limits.TheConstants.{MIN_BITS}
-use Rattle.rh_script.specs.declared.task.Task.{Task}
-use Rattle.rh_script.specs.declared.task.Task.TheVariants as tasks
-use Rattle.rh_script.specs.declared.task.PlannedStep.{PlannedStep}
-use Rattle.rh_script.specs.Tasks.{planned_as, task_as}
+use Rattle.rh_script.specs.declared.script.Command.{Command}
+use Rattle.rh_script.specs.declared.script.Command.TheVariants as commands
+use Rattle.rh_script.specs.declared.script.Step.{Step}
+use Rattle.rh_script.specs.Steps.{instruction_as, planned_as}
 use Rattle.std.proofs.KnownBytes.{Appends-nil, Appends-trans}
 use Rattle.rh_edit.specs.Held.{Held}
 use Rattle.rh_report.specs.Account.{Account, Says}
-use Rattle.rh_script.specs.Instruction.{Instruction, Numbered, Use, Add, Drop, Ask, Keep, Flip, Save, Clear, Dump, Snapshot, Restore}
-use Rattle.rh_script.specs.Names.{SnapshotsAreNew, file_of, files_in, given_by, is_given, names_in}
+use Rattle.rh_script.specs.Instruction.{Instruction, Numbered, Use, Act, Save, Clear, Dump, Snapshot, Restore}
+use Rattle.rh_script.specs.Names.{InOrder, admitted, file_of, files_in, given_by, is_given, names_in}
 use Rattle.rh_script.specs.Plan.{Planned, number_after, plan_of, planned_after}
 use Rattle.rh_shelf.specs.Shelf.{Files}
 use Rattle.rh_operations.specs.declared.cause.Cause.{Cause}
@@ -23,13 +23,15 @@ use Rattle.rh_operations.specs.declared.key_lists.KeyList.{KeyList}
 use Rattle.rh_script_run.specs.Files.{HasFiles, given_files}
 use Rattle.rh_operations.specs.KeyLists.{paths_of}
 use Rattle.rh_bytes.specs.Input.{◌>>=◌}
-use Rattle.rh_operations.specs.Size.{size_for}
-use Rattle.rh_script_run.specs.Meaning.{ScriptState, Outcome, outcome_at, keys_at_path, meaning, outcome_of, start, table_at}
+use Rattle.rh_operations.specs.Actions.{means}
+use Rattle.rh_script_run.specs.Meaning.{ScriptState, Outcome, outcome_at, keys_at_path, held_table, list_of, meaning, outcome_of, start, table_at}
 use Rattle.rh_script_run.specs.Environment.{Environment}
 use Rattle.rh_script_run.specs.Ends.{Done, EndsBy, LeavesFiles, SaysAll, Stopped, step_in}
-use Rattle.rh_script_run.specs.Steps.{ComesAfter, HasList, IsApart, ListsStand, Named, StepDone, names_of, world_of}
+use Rattle.rh_script_run.specs.Steps.{ActsOn, ComesAfter, HasList, ListsStand, Named, StepDone, names_of, world_of}
 use Rattle.rh_script_run.specs.Reached.{CarriedOut, Moment, Reached}
 use Rattle.rh_script_run.proofs.FileLemmas.{given_file}
+use Rattle.rh_script.proofs.Order.{snapshot_is_new}
+use Rattle.rh_script.proofs.Positions.{has_place}
 use Rattle.rh_script_run.proofs.ListLemmas.{place_inside}
 
 -- ---- what a step does to the names
@@ -57,11 +59,8 @@ unfolding outcome_of
 names_after w (Use name path) done is =
     let s = then_ok (keys_at_path (w.files path)) _ done is in
     ap (λ (o : Outcome). names_of (lists_of o)) (sym s.2) ∙ names_push w.lists name s.0
-names_after w (Add name) done is = let s = then_ok (size_for _ _) _ done is in same_names w _ done _ s.2 refl
-names_after w (Drop name) done is = same_names w _ done _ is refl
-names_after w (Ask name) done is = same_names w w done _ is refl
-names_after w (Keep name) done is = let s = then_ok (size_for _ _) _ done is in same_names w _ done _ s.2 refl
-names_after w (Flip name) done is = let s = then_ok (size_for _ _) _ done is in same_names w _ done _ s.2 refl
+names_after w (Act action name) done is =
+    let s = then_ok (means action (held_table w) (list_of name w.lists)) _ done is in same_names w _ done _ s.2 refl
 names_after w (Save name) done is = ap (λ (o : Outcome). names_of (lists_of o)) (sym is) ∙ names_push w.lists name _
 names_after w Clear done is = same_names w _ done _ is refl
 names_after w Dump done is = same_names w w done _ is refl
@@ -125,7 +124,7 @@ unfolding planned_after
 planned_long given [] = refl
 planned_long given (s ∷ steps) = ap suc (planned_long (given ++ given_by s.instruction) steps)
 
--- ---- the loop over the plan
+-- ---- the loop over the steps
 
 module _ (files : Files) (before : List Numbered) (step : Numbered) (old : Environment) (now next : Moment) (so_far : Reached files before old now) where
   abbrev world : ScriptState
@@ -166,18 +165,29 @@ reached_start files old set lists known keys bits none = record {
   paths = ap paths_of none;
 }
 
--- ---- a step of a plan
+-- ---- a step of the script, as the code has it
 
--- the step that the plan has at this position is the script's, and has its number
-pub record StepAt (steps : List Numbered) (i : ℕ) (step : PlannedStep) : Type 0 where
+acts_on : (command : Command) (list : Option ℕ) (before : List Numbered) (n : ℕ) → is_ok (admitted before (instruction_as command)) ≡ true → number_after (names_in before) (instruction_as command) ≡ list → n ≡ length (names_in before) → ActsOn command list n
+unfolding admitted number_after
+acts_on (commands.Use name path) list before n ok number is = tt
+acts_on (commands.Act action name) None before n ok number is = absurd (has_place (string_bytes name) (names_in before) ok number)
+acts_on (commands.Act action name) (Some list) before n ok number is = rw is (place_inside (string_bytes name) (names_in before) list number)
+acts_on (commands.Save name) list before n ok number is = tt
+acts_on commands.Clear list before n ok number is = tt
+acts_on commands.Dump list before n ok number is = tt
+acts_on (commands.Snapshot path) list before n ok number is = tt
+acts_on (commands.Restore path) list before n ok number is = tt
+
+-- it is the step at this position, and has the number of its list
+pub record StepAt (steps : List Numbered) (i : ℕ) (step : Step) : Type 0 where
   pub numbered : Numbered
   pub parts : steps ≡ take i steps ++ numbered ∷ drop (i + 1) steps
   pub more : take (i + 1) steps ≡ take i steps ++ numbered ∷ []
   pub line : step.line ≡ numbered.line
-  pub said : (task_as step.task).0 ≡ numbered.instruction
-  pub number : number_after (names_in (take i steps)) (task_as step.task).0 ≡ (task_as step.task).1
+  pub said : (instruction_as step.command) ≡ numbered.instruction
+  pub number : number_after (names_in (take i steps)) (instruction_as step.command) ≡ step.list
 
-map_at : (items : List PlannedStep) (i : ℕ) (d : PlannedStep) (e : Planned) → i < length items → get_or (map planned_as items) i e ≡ planned_as (get_or items i d)
+map_at : (items : List Step) (i : ℕ) (d : Step) (e : Planned) → i < length items → get_or (map planned_as items) i e ≡ planned_as (get_or items i d)
 map_at [] i d e inside = absurd (omega (arith, inside))
 map_at (x ∷ items) zero d e inside = refl
 map_at (x ∷ items) (suc i) d e inside = map_at items i d e (omega (arith, inside))
@@ -189,16 +199,15 @@ drop_at_place (s ∷ steps) (suc i) e inside =
     let next : suc i + 1 ≡ suc (i + 1) = omega arith in
     drop_at_place steps i e (omega (arith, inside)) ∙ ap (λ j. get_or steps i e ∷ drop j (s ∷ steps)) (sym next)
 
-all_planned : (items : List PlannedStep) (steps : List Numbered) → map planned_as items ≡ plan_of steps → length items ≡ length steps
+all_planned : (items : List Step) (steps : List Numbered) → map planned_as items ≡ plan_of steps → length items ≡ length steps
 all_planned items steps planned = sym (length-map items planned_as) ∙ ap length planned ∙ planned_long [] steps
 
-pub step_at : (items : List PlannedStep) (steps : List Numbered) (i : ℕ) (d : PlannedStep) → map planned_as items ≡ plan_of steps → i < length items → StepAt steps i (slice_index_or items i d)
-step_at items steps i d planned inside =
-    let step = slice_index_or items i d in
+pub step_at : (items : List Step) (steps : List Numbered) (i : ℕ) (step : Step) → map planned_as items ≡ plan_of steps → i < length items → step ≡ slice_index_or items i step → StepAt steps i step
+step_at items steps i step planned inside item =
     let e : Numbered = record { line = 0; instruction = Clear } in
     let long = all_planned items steps planned in
     let here : i < length steps = omega (arith, long, inside) in
-    let is = sym (map_at items i d (planned_as d) inside) ∙ ap (λ (l : List Planned). get_or l i (planned_as d)) planned ∙ planned_at [] steps i (planned_as d) e here in
+    let is = ap planned_as item ∙ sym (map_at items i step (planned_as step) inside) ∙ ap (λ (l : List Planned). get_or l i (planned_as step)) planned ∙ planned_at [] steps i (planned_as step) e here in
     let said = ap (λ (p : Planned). p.instruction) is in
     record {
       numbered = get_or steps i e;
@@ -209,38 +218,16 @@ step_at items steps i d planned inside =
       number = ap (number_after (names_in (take i steps))) said ∙ sym (ap (λ (p : Planned). p.list) is);
     }
 
-module _ (lists : List KeyList) where
-  apart_of : (task : Task) (said : Instruction) → (task_as task).0 ≡ said → ((path : List ℕ) → said ≡ Snapshot path → is_given path (paths_of lists) ≡ false) → IsApart task lists
-  apart_of (tasks.Use list name path) said is apart = tt
-  apart_of (tasks.Add list name) said is apart = tt
-  apart_of (tasks.Drop list name) said is apart = tt
-  apart_of (tasks.Ask list name) said is apart = tt
-  apart_of (tasks.Keep list name) said is apart = tt
-  apart_of (tasks.Flip list name) said is apart = tt
-  apart_of (tasks.Save list name) said is apart = tt
-  apart_of tasks.Clear said is apart = tt
-  apart_of tasks.Dump said is apart = tt
-  apart_of (tasks.Snapshot path) said is apart = apart path.now (sym is)
-  apart_of (tasks.Restore path) said is apart = tt
+module _ (steps : List Numbered) (ordered : InOrder steps) (i : ℕ) (step : Step) (here : StepAt steps i step) where
+  may_stand : is_ok (admitted (take i steps) (instruction_as step.command)) ≡ true
+  may_stand = subst (λ said. is_ok (admitted (take i steps) said) ≡ true) (sym here.said) (ordered (take i steps) (drop (i + 1) steps) here.numbered here.parts)
 
-  is_apart : (steps : List Numbered) (i : ℕ) (step : PlannedStep) → SnapshotsAreNew steps → StepAt steps i step → paths_of lists ≡ files_in (take i steps) → IsApart step.task lists
-  is_apart steps i step new here paths =
-      apart_of step.task here.numbered.instruction here.said (λ path is.
-      subst (λ given. is_given path given ≡ false) (sym paths) (new (take i steps) (drop (i + 1) steps) here.numbered path here.parts is).0)
+  pub is_apart : (lists : List KeyList) → paths_of lists ≡ files_in (take i steps) → (path : List ℕ) → instruction_as step.command ≡ Snapshot path → is_given path (paths_of lists) ≡ false
+  is_apart lists paths path is =
+      ap (is_given path) paths ∙ snapshot_is_new (take i steps) (instruction_as step.command) path may_stand is
 
-pub has_list : (task : Task) (given : List (List ℕ)) (n : ℕ) → number_after given (task_as task).0 ≡ (task_as task).1 → n ≡ length given → HasList task n
-unfolding number_after
-has_list (tasks.Use list name path) given n number is = tt
-has_list (tasks.Add list name) given n number is = rw is (place_inside name.now given list number)
-has_list (tasks.Drop list name) given n number is = rw is (place_inside name.now given list number)
-has_list (tasks.Ask list name) given n number is = rw is (place_inside name.now given list number)
-has_list (tasks.Keep list name) given n number is = rw is (place_inside name.now given list number)
-has_list (tasks.Flip list name) given n number is = rw is (place_inside name.now given list number)
-has_list (tasks.Save list name) given n number is = tt
-has_list tasks.Clear given n number is = tt
-has_list tasks.Dump given n number is = tt
-has_list (tasks.Snapshot path) given n number is = tt
-has_list (tasks.Restore path) given n number is = tt
+  pub has_list : (n : ℕ) → n ≡ length (names_in (take i steps)) → HasList step n
+  has_list n many = acts_on step.command step.list (take i steps) n may_stand here.number many
 
 pub more_lists : (steps : List Numbered) (i : ℕ) (step : Numbered) (said : Instruction) (n m : ℕ) → take (i + 1) steps ≡ take i steps ++ step ∷ [] → said ≡ step.instruction → n ≡ length (names_in (take i steps)) → m ≡ n + length (given_by said) → m ≡ length (names_in (take (i + 1) steps))
 more_lists steps i step said n m more is so_far grown =
@@ -249,26 +236,26 @@ more_lists steps i step said n m more is so_far grown =
     let now : length (names_in (take (i + 1) steps)) ≡ length (names_in (take i steps) ++ given_by step.instruction) = ap length (ap names_in more ∙ names_more (take i steps) step) in
     omega (arith, both, same, now, so_far, grown)
 
-module _ (files : Files) (steps : List Numbered) (i : ℕ) (step : PlannedStep) (old : Environment) (now : Moment) (here : StepAt steps i step) (so_far : Reached files (take i steps) old now) where
+module _ (files : Files) (steps : List Numbered) (i : ℕ) (step : Step) (old : Environment) (now : Moment) (here : StepAt steps i step) (so_far : Reached files (take i steps) old now) where
   abbrev world_here : ScriptState
   world_here = world_of now.set so_far.done.named so_far.done.made
 
-  pub comes_after : SnapshotsAreNew steps → ComesAfter step.task so_far.done.named so_far.done.made now.lists now.environment.files
-  comes_after new = record {
+  pub comes_after : InOrder steps → ComesAfter step so_far.done.named so_far.done.made now.lists now.environment.files
+  comes_after ordered = record {
     has = so_far.done.has;
     stand = so_far.stand;
-    number = subst (λ given. number_after given (task_as step.task).0 ≡ (task_as step.task).1) (sym so_far.names) here.number;
-    apart = is_apart now.lists steps i step new here so_far.paths;
+    number = subst (λ given. number_after given (instruction_as step.command) ≡ step.list) (sym so_far.names) here.number;
+    apart = is_apart steps ordered i step here now.lists so_far.paths;
   }
 
-  pub goes_on : (next : Moment) → StepDone (step_in world_here (task_as step.task).0 now.environment next.environment) next.set next.lists → paths_of next.lists ≡ paths_of now.lists ++ file_of (task_as step.task).0 → Reached files (take (i + 1) steps) old next
+  pub goes_on : (next : Moment) → StepDone (step_in world_here (instruction_as step.command) now.environment next.environment) next.set next.lists → paths_of next.lists ≡ paths_of now.lists ++ file_of (instruction_as step.command) → Reached files (take (i + 1) steps) old next
   goes_on next did paths =
       let its = subst (λ said. StepDone (step_in world_here said now.environment next.environment) next.set next.lists) here.said did in
       let its_paths = subst (λ said. paths_of next.lists ≡ paths_of now.lists ++ file_of said) here.said paths in
       subst (λ l. Reached files l old next) (sym here.more) (reached_more files (take i steps) here.numbered old now next so_far its its_paths)
 
   pub stops_here : (new : Environment) (cause : Cause) → now.environment.failures ≡ old.failures → now.environment.failed_reads ≡ old.failed_reads → now.environment.refused_starts ≡ old.refused_starts
-      → EndsBy (step_in world_here (task_as step.task).0 now.environment new) cause × LeavesFiles (step_in world_here (task_as step.task).0 now.environment new) so_far.done.made cause
+      → EndsBy (step_in world_here (instruction_as step.command) now.environment new) cause × LeavesFiles (step_in world_here (instruction_as step.command) now.environment new) so_far.done.made cause
       → Stopped files steps old new (record { line = step.line; cause = cause })
   stops_here new cause fine read started ends = record {
     before = take i steps;
@@ -290,13 +277,10 @@ module _ (files : Files) (steps : List Numbered) (i : ℕ) (step : PlannedStep) 
     files_now = subst (λ said. LeavesFiles (step_in world_here said now.environment new) so_far.done.made cause) here.said ends.1;
   }
 
-pub all_carried_out : (files : Files) (items : List PlannedStep) (steps : List Numbered) (i : ℕ) (old : Environment) (now : Moment) → map planned_as items ≡ plan_of steps → length items ≤ i → Reached files (take i steps) old now → CarriedOut files steps now.set old now.environment
+pub all_carried_out : (files : Files) (items : List Step) (steps : List Numbered) (i : ℕ) (old : Environment) (now : Moment) → map planned_as items ≡ plan_of steps → length items ≤ i → Reached files (take i steps) old now → CarriedOut files steps now.set old now.environment
 all_carried_out files items steps i old now planned ended so_far =
     let all : take i steps ≡ steps = take_all i steps (omega (arith, all_planned items steps planned, ended)) in
     subst (λ l. CarriedOut files l now.set old now.environment) all so_far.done
-
-pub steps_of_plan : (planned : List Planned) (steps : List Numbered) → planned ≡ plan_of steps → length planned ≡ length steps
-steps_of_plan planned steps is = ap length is ∙ planned_long [] steps
 
 pub all_done : (files : Files) (steps : List Numbered) (set : Held) (old new : Environment) (commands held bits : ℕ) → CarriedOut files steps set old new → commands ≡ length steps → held ≡ finset.len set.keys → bits ≡ set.bits → new.failures ≡ old.failures → new.failed_reads ≡ old.failed_reads → new.refused_starts ≡ old.refused_starts → Done files steps old new (record { commands = commands; held = held; bits = bits })
 all_done files steps set old new commands held bits carried many held_is bits_is fine read started = record {

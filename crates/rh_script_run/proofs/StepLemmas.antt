@@ -1,5 +1,5 @@
 -- What a step makes.
-use Rattle.std.proofs.Common.{◌≡◌, ◌∙◌, ap, sym, subst, refl, ℕ, ◌+◌, ◌⊎◌, inl, inr, List, [], ◌∷◌, ◌++◌, length, None, Result, Ok, Err}
+use Rattle.std.proofs.Common.{◌≡◌, ◌∙◌, ap, sym, subst, ℕ, ◌⊎◌, inl, inr, List, [], ◌∷◌, ◌++◌, length, None, Result, Ok, Err}
 use Rattle.std.specs.FinSet as set
 use Rattle.rh_edit.specs.Held.{Held}
 use Rattle.rh_script_run.specs.Files.{FileMap}
@@ -8,20 +8,8 @@ use Rattle.rh_report.specs.Account as accounts
 use Rattle.rh_operations.specs.declared.cause.Cause.{Cause}
 use Rattle.rh_bytes.specs.Counting.{Rose}
 use Rattle.rh_bytes.specs.Input.{◌>>=◌}
-use Rattle.rh_layout.specs.declared.limits.TheConstants.{MIN_BITS}
-use Rattle.rh_ledger.specs.declared.tally.Kind.TheVariants.{Insert, Remove}
-use Rattle.rh_ledger.specs.Phase.{set_after, tally_of}
-use Rattle.rh_report.specs.declared.lines.Change.TheVariants as changes
-use Rattle.rh_runner.specs.declared.chosen.Chosen.TheVariants.{Absent, Present}
-use Rattle.rh_runner.specs.Lists.{chosen}
 use Rattle.rh_shelf.specs.Shelf.{ShelfState}
-use Rattle.rh_operations.specs.declared.action.Action.{Action}
-use Rattle.rh_operations.specs.declared.action.Action.TheVariants.{Add, Drop, Keep, Flip, Ask}
-use Rattle.rh_operations.specs.Actions.{Changed, Telling, means, table}
 use Rattle.rh_operations.specs.Leaves.{KeepsShelf}
-use Rattle.rh_operations.specs.Sets.{flipped, kept}
-use Rattle.rh_operations.specs.Size.{size_for}
-use Rattle.rh_script_run.specs.Actions.{account_of, outcome_by}
 use Rattle.rh_script_run.specs.Ends.{LeavesShelf}
 use Rattle.rh_script_run.specs.Meaning.{Outcome, keys_at_path, restores, table_at, uses}
 use Rattle.rh_script_run.specs.Steps.{Named, world_of}
@@ -36,27 +24,6 @@ module _ {Out : Type 0} (cause : Cause) where
   pub same_refused : (a b : Outcome) → a ≡ b → (b ≡ Err cause) ⊎ Out → (a ≡ Err cause) ⊎ Out
   same_refused a b same (inl is) = inl (same ∙ is)
   same_refused a b same (inr out) = inr out
-
--- ---- an action on the keys of a list
-
--- what a table that was made so, and what there is to tell of it, are in the script's state
-abbrev pub tells : (named : Named) (files : FileMap) (name keys : List ℕ) → Held × Telling → Outcome
-tells named files name keys made = Ok (world_of made.0 named files, account_of name (length keys) made.0 made.1)
-
-rebound : (size : Result ℕ Cause) (make : ℕ → Held × Telling) (then : Held × Telling → Outcome) → (size >>= (λ bits. then (make bits))) ≡ ((size >>= (λ bits. Ok (make bits))) >>= then)
-rebound (Ok bits) make then = refl
-rebound (Err e) make then = refl
-
-module _ (t : Held) (named : Named) (files : FileMap) (name keys : List ℕ) where
-  pub through : (action : Action) → outcome_by action (world_of t named files) name keys ≡ (means action t keys >>= tells named files name keys)
-  through Add = rebound (size_for t.bits (set.len t.keys + length keys)) (λ bits. (table bits (set_after Insert t.keys keys), Changed (changes.Added (tally_of Insert t.keys keys).added))) (tells named files name keys)
-  through Drop = refl
-  through Keep = rebound (size_for MIN_BITS (length (chosen Present t.keys keys))) (λ bits. (table bits (kept t.keys keys), Changed (changes.Kept (length (chosen Present t.keys keys))))) (tells named files name keys)
-  through Flip =
-      rebound (size_for t.bits (set.len (set_after Remove t.keys keys) + length (chosen Absent t.keys keys)))
-      (λ bits. (table bits (flipped t.keys keys), Changed (changes.Flipped (tally_of Remove t.keys keys).removed (tally_of Insert (set_after Remove t.keys keys) (chosen Absent t.keys keys)).added)))
-      (tells named files name keys)
-  through Ask = refl
 
 -- ---- what is left of a shelf
 

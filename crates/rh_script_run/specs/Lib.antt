@@ -1,4 +1,3 @@
-pub mod Actions
 pub mod Agree
 pub mod Ends
 pub mod Environment

@@ -1,7 +1,7 @@
 -- What a script means: what its commands make, one after the other, of a set, the bits of its
 -- table, the lists that have a name and the files, and what each has to report. It ends at the first command that is
 -- refused.
-use Rattle.std.specs.Prelude.{ℕ, ◌+◌, List, [], ◌∷◌, ◌++◌, length, Option, Some, None, Result, Ok, Err, unwrap_or}
+use Rattle.std.specs.Prelude.{ℕ, List, [], ◌∷◌, ◌++◌, length, Option, Some, None, Result, Ok, Err, unwrap_or}
 use Rattle.std.specs.FinSet as set
 use Rattle.std.specs.Str.{bytes_eq}
 use Rattle.std.specs.Map.{lookup}
@@ -9,26 +9,23 @@ use Rattle.rh_layout.specs.Layout.{Keys}
 use Rattle.rh_layout.specs.declared.limits.TheConstants.{MIN_BITS}
 use Rattle.rh_edit.specs.Held.{Held}
 use Rattle.rh_edit.specs.Rising.{rising_keys}
-use Rattle.rh_ledger.specs.declared.tally.Kind.TheVariants.{Insert, Remove}
-use Rattle.rh_ledger.specs.Phase.{set_after, tally_of, looked_up}
 use Rattle.rh_key_files.specs.declared.fault.KeyFault.TheVariants.{NotKeys}
 use Rattle.rh_key_files.specs.Source.{keys_of_file}
 use Rattle.rh_snapshot.specs.Reading.{file_table}
-use Rattle.rh_runner.specs.declared.chosen.Chosen.TheVariants.{Absent, Present}
-use Rattle.rh_runner.specs.Lists.{chosen}
+use Rattle.rh_script.specs.declared.action.Action.{Action}
 use Rattle.rh_script.specs.Instruction.{Instruction, Numbered}
 use Rattle.rh_script.specs.Instruction as instructions
 use Rattle.rh_shelf.specs.Shelf.{Files}
-use Rattle.rh_report.specs.Account.{Account, Used, Added, Dropped, Asked, Kept, Flipped, Saved, Cleared, Dumped, Restored}
+use Rattle.rh_report.specs.Account.{Account, Used, Saved, Cleared, Dumped, Restored}
 use Rattle.rh_report.specs.Account as accounts
 use Rattle.rh_operations.specs.declared.cause.Cause.{Cause}
 use Rattle.rh_operations.specs.declared.cause.Cause.TheVariants as causes
 use Rattle.rh_operations.specs.declared.cause.Cause.TheVariants.{Missing}
 use Rattle.rh_operations.specs.Found.{keys_or_cause, table_or_cause}
 use Rattle.rh_bytes.specs.Input.{◌>>=◌}
-use Rattle.rh_operations.specs.Sets.{flipped, kept}
-use Rattle.rh_operations.specs.Size.{size_for}
+use Rattle.rh_operations.specs.Actions.{means}
 use Rattle.rh_script_run.specs.declared.fault.RunFault.{RunFault}
+use Rattle.rh_script_run.specs.Told.{account_of}
 use Rattle.rh_script_run.specs.Files.{File, FileMap, Bytes, Sealed, given_files, with_snapshot}
 
 -- what there is between two commands: the keys that are held, the bits of their table, the lists by their names in the
@@ -71,39 +68,18 @@ with_list w name keys = record w { lists = w.lists ++ (name, keys) ∷ [] }
 abbrev pub uses : ScriptState → (name path : List ℕ) → Outcome
 uses w name path = keys_at_path (w.files path) >>= (λ keys. Ok (with_list w name keys, Used name (length keys)))
 
--- the keys of the list are held too
-abbrev pub adds : ScriptState → (name keys : List ℕ) → Outcome
-adds w name keys =
-    let held = set_after Insert w.held keys in
-    size_for w.bits (set.len w.held + length keys)
-    >>= (λ bits. Ok (record w { held = held; bits = bits }, Added name (length keys) (tally_of Insert w.held keys).added (set.len held) bits))
+abbrev pub held_table : ScriptState → Held
+held_table w = record { bits = w.bits; keys = w.held }
 
--- the keys of the list are held no more
-abbrev pub drops : ScriptState → (name keys : List ℕ) → Outcome
-drops w name keys =
-    let held = set_after Remove w.held keys in
-    Ok (record w { held = held }, Dropped name (length keys) (tally_of Remove w.held keys).removed (set.len held) w.bits)
+-- the table is another one
+abbrev pub with_table : ScriptState → Held → ScriptState
+with_table w table = record w { held = table.keys; bits = table.bits }
 
--- the keys of the list are looked up
-abbrev pub asks : ScriptState → (name keys : List ℕ) → Outcome
-asks w name keys = Ok (w, Asked name (looked_up w.held keys))
-
--- of the keys that are held, those of the list are kept
-abbrev pub keeps : ScriptState → (name keys : List ℕ) → Outcome
-keeps w name keys =
-    let found = chosen Present w.held keys in
-    let held = kept w.held keys in
-    size_for MIN_BITS (length found)
-    >>= (λ bits. Ok (record w { held = held; bits = bits }, Kept name (length keys) (length found) (set.len held) bits))
-
--- the keys of the list that are held are dropped, and the others are added
-abbrev pub flips : ScriptState → (name keys : List ℕ) → Outcome
-flips w name keys =
-    let others = chosen Absent w.held keys in
-    let left = set_after Remove w.held keys in
-    let held = flipped w.held keys in
-    size_for w.bits (set.len left + length others)
-    >>= (λ bits. Ok (record w { held = held; bits = bits }, Flipped name (length keys) (tally_of Remove w.held keys).removed (tally_of Insert left others).added (set.len held) bits))
+-- the action on the table, by the keys of the list of this name
+abbrev pub acts : Action → ScriptState → (name keys : List ℕ) → Outcome
+acts action w name keys =
+    means action (held_table w) keys
+    >>= (λ made. Ok (with_table w made.0, account_of name (length keys) made.0 made.1))
 
 -- the keys that are held become a list, in rising order
 abbrev pub saves : ScriptState → (name : List ℕ) → Outcome
@@ -115,9 +91,6 @@ clears w = Ok (record w { held = set.empty; bits = MIN_BITS }, Cleared)
 abbrev pub dumps : ScriptState → Outcome
 dumps w = Ok (w, Dumped w.held w.bits)
 
-abbrev pub held_table : ScriptState → Held
-held_table w = record { bits = w.bits; keys = w.held }
-
 -- the path has a snapshot of the table from now on
 abbrev pub snapshots : ScriptState → (path : List ℕ) → Outcome
 snapshots w path = Ok (record w { files = with_snapshot w.files path (held_table w) }, accounts.Sealed path (set.len w.held) w.bits)
@@ -126,17 +99,13 @@ snapshots w path = Ok (record w { files = with_snapshot w.files path (held_table
 abbrev pub restores : ScriptState → (path : List ℕ) → Outcome
 restores w path =
     table_at (w.files path)
-    >>= (λ table. Ok (record w { held = table.keys; bits = table.bits }, Restored path (set.len table.keys) table.bits))
+    >>= (λ table. Ok (with_table w table, Restored path (set.len table.keys) table.bits))
 
 -- With 1 and 2 held in 4 bits `keep b` of the list 1, 2 leaves both, in 3 bits. `snapshot s`, `clear` and `restore s` leave what
 -- was held before, in the same bits.
 unfoldable pub outcome_of : ScriptState → Instruction → Outcome
 outcome_of w (instructions.Use name path) = uses w name path
-outcome_of w (instructions.Add name) = adds w name (list_of name w.lists)
-outcome_of w (instructions.Drop name) = drops w name (list_of name w.lists)
-outcome_of w (instructions.Ask name) = asks w name (list_of name w.lists)
-outcome_of w (instructions.Keep name) = keeps w name (list_of name w.lists)
-outcome_of w (instructions.Flip name) = flips w name (list_of name w.lists)
+outcome_of w (instructions.Act action name) = acts action w name (list_of name w.lists)
 outcome_of w (instructions.Save name) = saves w name
 outcome_of w instructions.Clear = clears w
 outcome_of w instructions.Dump = dumps w

@@ -1,5 +1,5 @@
 -- The causes that the script and the files do not have, command by command.
-use Rattle.rh_script.specs.Instruction.{Instruction, Use, Add, Drop, Ask, Keep, Flip, Save, Clear, Dump, Snapshot, Restore}
+use Rattle.rh_script.specs.Instruction.{Instruction, Use, Act, Save, Clear, Dump, Snapshot, Restore}
 use Rattle.rh_operations.specs.declared.cause.Cause.{Cause}
 use Rattle.rh_operations.specs.Outside.{Outside}
 use Rattle.rh_operations.specs.Refusals.{MemoryFails, ListFails, PhaseFails, PutFails, RestoreFails}
@@ -8,11 +8,7 @@ use Rattle.rh_operations.specs.Refusals.{MemoryFails, ListFails, PhaseFails, Put
 -- Where its report could not be written is told elsewhere.
 abbrev pub IsOutside : Instruction → (old new : Outside) → Cause → Type 0
 IsOutside (Use name path) old new cause = ListFails old.shelf new.shelf cause
-IsOutside (Add name) old new cause = PhaseFails old new cause
-IsOutside (Drop name) old new cause = PhaseFails old new cause
-IsOutside (Ask name) old new cause = PhaseFails old new cause
-IsOutside (Keep name) old new cause = PhaseFails old new cause
-IsOutside (Flip name) old new cause = PhaseFails old new cause
+IsOutside (Act action name) old new cause = PhaseFails old new cause
 IsOutside (Save name) old new cause = MemoryFails cause
 IsOutside Clear old new cause = MemoryFails cause
 IsOutside Dump old new cause = ⊥

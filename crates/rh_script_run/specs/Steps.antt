@@ -1,13 +1,14 @@
 -- What the code has of a script's world, and what a step makes of it.
-use Rattle.std.specs.Prelude.{◌≡◌, ℕ, ◌<◌, false, List, [], ◌∷◌, map, Option, Result, Ok, MatchResult}
+use Rattle.std.specs.Prelude.{◌≡◌, ℕ, ◌<◌, false, List, [], ◌∷◌, map, Option, Some, None, Result, Ok, MatchResult}
 use Rattle.rh_edit.specs.Held.{Held}
 use Rattle.rh_shelf.specs.Shelf.{Files}
-use Rattle.rh_script.specs.Instruction.{Instruction}
+use Rattle.rh_script.specs.Instruction.{Instruction, Snapshot}
 use Rattle.rh_script.specs.Names.{is_given}
 use Rattle.rh_script.specs.Plan.{number_after}
-use Rattle.rh_script.specs.Tasks.{task_as}
-use Rattle.rh_script.specs.declared.task.Task.{Task}
-use Rattle.rh_script.specs.declared.task.Task.TheVariants as tasks
+use Rattle.rh_script.specs.Steps.{instruction_as}
+use Rattle.rh_script.specs.declared.script.Command.{Command}
+use Rattle.rh_script.specs.declared.script.Command.TheVariants as commands
+use Rattle.rh_script.specs.declared.script.Step.{Step as ScriptStep}
 use Rattle.rh_report.specs.Account.{Account}
 use Rattle.rh_operations.specs.declared.cause.Cause.{Cause}
 use Rattle.rh_operations.specs.declared.key_lists.KeyList.{KeyList}
@@ -72,26 +73,22 @@ abbrev pub StateEnds : Step → (found : FileMap) → Held → List KeyList → 
 StateEnds step found set lists r =
     MatchResult r (λ _. StepDone step set lists) (λ cause. EndsBy step cause × LeavesFiles step found cause)
 
--- the list of a task is among so many
-abbrev pub HasList : Task → ℕ → Type 0
-HasList (tasks.Add list name) n = list < n
-HasList (tasks.Drop list name) n = list < n
-HasList (tasks.Ask list name) n = list < n
-HasList (tasks.Keep list name) n = list < n
-HasList (tasks.Flip list name) n = list < n
-HasList _ n = Unit {0}
+-- the list that a command acts on, by its number, is among so many
+abbrev pub ActsOn : Command → (list : Option ℕ) → ℕ → Type 0
+ActsOn (commands.Act action name) None many = ⊥
+ActsOn (commands.Act action name) (Some list) many = list < many
+ActsOn _ list many = Unit {0}
 
--- a task puts its snapshot under a path at which no list stands
-abbrev pub IsApart : Task → List KeyList → Type 0
-IsApart (tasks.Snapshot path) lists = is_given path.now (paths_of lists) ≡ false
-IsApart _ lists = Unit {0}
+abbrev pub HasList : ScriptStep → ℕ → Type 0
+HasList step many = ActsOn step.command step.list many
 
--- A task comes where these named lists and these files were made, as the code has them now.
-pub record ComesAfter (task : Task) (named : Named) (files : FileMap) (lists : List KeyList) (now : Option Files) : Type 0 where
+-- A step comes where these named lists and these files were made, as the code has them now. It has the number of its list,
+-- and puts no snapshot under a path at which a list stands.
+pub record ComesAfter (step : ScriptStep) (named : Named) (files : FileMap) (lists : List KeyList) (now : Option Files) : Type 0 where
   pub has : HasFiles files now
   pub stand : ListsStand now lists named
-  pub number : number_after (names_of named) (task_as task).0 ≡ (task_as task).1
-  pub apart : IsApart task lists
+  pub number : number_after (names_of named) (instruction_as step.command) ≡ step.list
+  pub apart : (path : List ℕ) → instruction_as step.command ≡ Snapshot path → is_given path (paths_of lists) ≡ false
 
 -- A command makes of a world what it means, or is refused by what that means or by a cause from outside.
 abbrev pub Performs : Instruction → ScriptState → (old new : Outside) → Held → List KeyList → Result Told Cause → Type 0

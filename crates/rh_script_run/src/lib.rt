@@ -49,7 +49,6 @@ mod laws;
 mod report;
 mod running;
 mod steps;
-mod tasks;
 mod told;
 mod twice;
 

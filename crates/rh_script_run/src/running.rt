@@ -1,31 +1,34 @@
 //! The run of a script.
 
-ghost use Rattle.std.specs.Prelude.{◌≡◌, List, Some, IfOk};
+ghost use Rattle.std.specs.Prelude.{◌≡◌, ◌≢◌, ◌+◌, ◌++◌, Some, IfErr, OnErr, OnOk, length};
 ghost use Rattle.std.specs.FinSet as finset;
 ghost use Rattle.rh_layout.specs.declared.limits.TheConstants.{MIN_BITS};
 ghost use Rattle.rh_bytes.specs.Counting.{failures_of};
-ghost use Rattle.rh_script.specs.Instruction.{Numbered};
-ghost use Rattle.rh_script.specs.Names.{SnapshotsAreNew};
-ghost use Rattle.rh_script.specs.Plan.{plan_of};
+ghost use Rattle.rh_script.specs.Names.{file_of, given_by};
 ghost use Rattle.rh_script.specs.Script.{steps_of};
-ghost use Rattle.rh_script.specs.Tasks.{planned_of};
+ghost use Rattle.rh_script.specs.Steps.{instruction_as};
+ghost use Rattle.rh_operations.specs.KeyLists.{paths_of};
 ghost use Rattle.rh_operations.specs.Outside.{outside};
 ghost use Rattle.rh_shelf.specs.Shelf.{Files};
-ghost use Rattle.rh_script_run.specs.Ends.{Ends, LeavesAll, cause_of};
+ghost use Rattle.rh_script_run.specs.Ends.{Ends, LeavesAll, LeavesOutside, cause_of, step_in};
 ghost use Rattle.rh_script_run.specs.Environment.{environment_of};
+ghost use Rattle.rh_script_run.specs.Files.{FileMap};
 ghost use Rattle.rh_script_run.specs.Reached.{AllEnds};
+ghost use Rattle.rh_script_run.specs.Steps.{ComesAfter, HasList, Named, Performs, StateEnds};
+ghost use Rattle.rh_script_run.specs.Steps.{world_of};
 
 use crate::fault::RunFault;
 use crate::report::Report;
-use crate::tasks::carry_out;
+use crate::steps::{clear_step, list_step, restore_step, save_step, snapshot_step, use_step};
+use crate::told::{Told, tell};
 use rh_bytes::Counted;
 use rh_edit::SeqSet;
 use rh_layout::MIN_BITS;
-use rh_operations::Cause;
+use rh_operations::{Cause, KeyList};
 use rh_runner::Runner;
-use rh_script::{Plan, Script, plan};
+use rh_script::{Command, Script, Step};
 use rh_shelf::Lender;
-use std::alloc::{AllocError, Global};
+use std::alloc::Global;
 use std::io::Write;
 use std::sync::Wait;
 use std::thread::Threads;
@@ -57,31 +60,19 @@ pub fn run<T: Threads + Wait + Sync, S: Lender, N: Runner, W: Write>(
         (outside S.state N.refused_starts shelf.new runner.new)
         (failures_of writer.old) (failures_of writer.new) (cause_of result) }
 {
-    let Ok((plan, empty)) = begin(alloc, script) else {
+    let Ok(empty) = SeqSet::new(alloc, MIN_BITS) else {
         let (line, cause) = (0, Cause::Memory);
         return Err(RunFault { line, cause });
     };
-    let set = carry_out_all(rt, alloc, shelf, runner, writer, empty, &plan)?;
+    let set = carry_out_all(rt, alloc, shelf, runner, writer, empty, script)?;
     Ok(Report {
-        commands: plan.len() as u64,
+        commands: script.len() as u64,
         held: set.len() as u64,
         bits: set.bits(),
     })
 }
 
-/// The plan of a script, and the set that it begins with.
-fn begin(alloc: Global, script: &Script) -> Result<(Plan<'_>, SeqSet), AllocError>
-    ensures plan { IfOk result (λ b. planned_of b.0 ≡ plan_of (steps_of script.now)) }
-    ensures snapshots { SnapshotsAreNew (steps_of script.now) }
-    ensures keys { IfOk result (λ b. b.1.keys ≡ finset.empty) }
-    ensures bits { IfOk result (λ b. b.1.bits ≡ MIN_BITS) }
-{
-    let plan = plan(alloc, script)?;
-    let set = SeqSet::new(alloc, MIN_BITS)?;
-    Ok((plan, set))
-}
-
-/// Carries out the steps of a plan, from an empty set on, and gives the set that they made.
+/// Carries out the steps of a script, from an empty set on, and gives the set that they made.
 fn carry_out_all<T: Threads + Wait + Sync, S: Lender, N: Runner, W: Write>(
     rt: &T,
     alloc: Global,
@@ -89,15 +80,12 @@ fn carry_out_all<T: Threads + Wait + Sync, S: Lender, N: Runner, W: Write>(
     runner: &mut N,
     writer: &mut Counted<W>,
     mut set: SeqSet,
-    plan: &Plan<'_>,
+    script: &Script,
 ) -> Result<SeqSet, RunFault>
-    requires planned { (steps : List Numbered) × (planned_of plan.now ≡ plan_of steps) }
     requires keys { set.keys ≡ finset.empty }
     requires bits { set.bits ≡ MIN_BITS }
-    ensures meant { (files : Files) (steps : List Numbered) →
-        (S.state shelf.old).files ≡ Some files →
-        planned_of plan.now ≡ plan_of steps → SnapshotsAreNew steps →
-        AllEnds files steps
+    ensures meant { (files : Files) → (S.state shelf.old).files ≡ Some files →
+        AllEnds files (steps_of script.now)
         (environment_of S.state N.refused_starts W.contents shelf.old runner.old writer.old)
         (environment_of S.state N.refused_starts W.contents shelf.new runner.new writer.new)
         result }
@@ -106,13 +94,85 @@ fn carry_out_all<T: Threads + Wait + Sync, S: Lender, N: Runner, W: Write>(
         (failures_of writer.old) (failures_of writer.new) (cause_of result) }
 {
     let mut lists = Vec::new(alloc);
-    for step in plan.steps() {
-        let task = &step.task;
-        let told = carry_out(rt, alloc, shelf, runner, writer, &mut set, &mut lists, task);
+    for step in script.steps() {
+        let told = carry_out(rt, alloc, shelf, runner, writer, &mut set, &mut lists, step);
         if let Err(cause) = told {
             let line = step.line;
             return Err(RunFault { line, cause });
         }
     }
     Ok(set)
+}
+
+/// Carries a step out and writes its report.
+fn carry_out<'a, T: Threads + Wait + Sync, S: Lender, N: Runner, W: Write>(
+    rt: &T,
+    alloc: Global,
+    shelf: &mut S,
+    runner: &mut N,
+    writer: &mut Counted<W>,
+    set: &mut SeqSet,
+    lists: &mut Vec<KeyList<'a>>,
+    step: &'a Step,
+) -> Result<(), Cause>
+    requires { HasList step.now (length lists.old.items) }
+    ensures step { (named : Named) (files : FileMap) →
+        ComesAfter step.now named files lists.old.items (S.state shelf.old).files →
+        StateEnds (step_in (world_of set.old named files) (instruction_as step.now.command)
+        (environment_of S.state N.refused_starts W.contents shelf.old runner.old writer.old)
+        (environment_of S.state N.refused_starts W.contents shelf.new runner.new writer.new))
+        files set.new lists.new.items result }
+    ensures lists { OnOk result (length lists.new.items
+        ≡ length lists.old.items + length (given_by (instruction_as step.now.command))) }
+    ensures paths { OnOk result (paths_of lists.new.items
+        ≡ paths_of lists.old.items ++ file_of (instruction_as step.now.command)) }
+    ensures unchanged { IfErr result (λ cause. cause ≢ Cause.Write → set.new ≡ set.old) }
+    ensures leaves { LeavesAll (outside S.state N.refused_starts shelf.old runner.old)
+        (outside S.state N.refused_starts shelf.new runner.new)
+        (failures_of writer.old) (failures_of writer.new) result }
+{
+    let told = act(rt, alloc, shelf, runner, set, lists, step)?;
+    tell(writer, set, &told)?;
+    Ok(())
+}
+
+/// Carries a step out, and answers what it has to report.
+#[tactic(auto, using(crate::proofs::StepLemmas::leaves_kept), unfolding(crate::specs::Meaning::outcome_of, rh_script::specs::Plan::number_after))]
+fn act<'a, T: Threads + Wait + Sync, S: Lender, N: Runner>(
+    rt: &T,
+    alloc: Global,
+    shelf: &mut S,
+    runner: &mut N,
+    set: &mut SeqSet,
+    lists: &mut Vec<KeyList<'a>>,
+    step: &'a Step,
+) -> Result<Told<'a>, Cause>
+    requires { HasList step.now (length lists.old.items) }
+    ensures made { (named : Named) (files : FileMap) →
+        ComesAfter step.now named files lists.old.items (S.state shelf.old).files →
+        Performs (instruction_as step.now.command) (world_of set.old named files)
+        (outside S.state N.refused_starts shelf.old runner.old)
+        (outside S.state N.refused_starts shelf.new runner.new)
+        set.new lists.new.items result }
+    ensures lists { OnOk result (length lists.new.items
+        ≡ length lists.old.items + length (given_by (instruction_as step.now.command))) }
+    ensures paths { OnOk result (paths_of lists.new.items
+        ≡ paths_of lists.old.items ++ file_of (instruction_as step.now.command)) }
+    ensures unchanged { OnErr result (set.new ≡ set.old) }
+    ensures leaves { LeavesOutside (outside S.state N.refused_starts shelf.old runner.old)
+        (outside S.state N.refused_starts shelf.new runner.new) result }
+    ensures no_write { IfErr result (λ cause. cause ≡ Cause.Write → ⊥) }
+{
+    match &step.command {
+        Command::Use { name, path } => use_step(alloc, shelf, lists, name, path),
+        Command::Act { action, name } => {
+            let list = &lists[step.list.unwrap()];
+            list_step(rt, alloc, shelf, runner, set, list, name, *action)
+        }
+        Command::Save { name } => save_step(alloc, set, lists, name),
+        Command::Clear => clear_step(alloc, set),
+        Command::Dump => Ok(Told::Dump),
+        Command::Snapshot { path } => snapshot_step(alloc, shelf, set, path),
+        Command::Restore { path } => restore_step(alloc, shelf, set, path),
+    }
 }

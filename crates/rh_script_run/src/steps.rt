@@ -13,21 +13,21 @@ ghost use Rattle.rh_operations.specs.Leaves.{Leaves, UsesShelf};
 ghost use Rattle.rh_operations.specs.Outside.{outside};
 ghost use Rattle.rh_operations.specs.Refusals.{ListFails, MemoryFails, PhaseFails, PutFails};
 ghost use Rattle.rh_operations.specs.Refusals.{RestoreFails};
-ghost use Rattle.rh_script_run.specs.Actions.{account_of, outcome_by};
 ghost use Rattle.rh_script_run.specs.Ends.{LeavesShelf};
 ghost use Rattle.rh_script_run.specs.Files.{FileMap, HasFiles};
-ghost use Rattle.rh_script_run.specs.Meaning.{clears, restores, saves, snapshots, uses};
+ghost use Rattle.rh_script_run.specs.Meaning.{acts, clears, restores, saves, snapshots, uses};
 ghost use Rattle.rh_script_run.specs.Steps.{ListsStand, Makes, MakesLists, MakesState, Named, world_of};
-ghost use Rattle.rh_script_run.specs.Told.{report_table, told_as};
+ghost use Rattle.rh_script_run.specs.Told.{account_of, report_table, told_as};
 
 use crate::told::Told;
 use rh_edit::SeqSet;
 use rh_layout::MIN_BITS;
 use rh_operations::{
-    Action, Cause, Done, KeyList, Source, operate, put_snapshot, restored, saved, use_file,
+    Cause, Done, KeyList, Source, operate, put_snapshot, restored, saved, use_file,
 };
 use rh_report::{Account, Table};
 use rh_runner::Runner;
+use rh_script::Action;
 use rh_shelf::Lender;
 use std::alloc::Global;
 use std::sync::Wait;
@@ -46,7 +46,7 @@ pub(crate) fn list_step<'a, T: Threads + Wait + Sync, S: Lender, N: Runner>(
 ) -> Result<Told<'a>, Cause>
     ensures made { (lists : Named) (files : FileMap) (keys : List ℕ) →
         Stands (S.state shelf.old).files list.now keys →
-        Makes (outcome_by action (world_of set.old lists files) name.now keys)
+        Makes (acts action (world_of set.old lists files) name.now keys)
         (PhaseFails (outside S.state N.refused_starts shelf.old runner.old)
         (outside S.state N.refused_starts shelf.new runner.new))
         (world_of set.new lists files) set.new result }

@@ -2,6 +2,7 @@ use rh_edit::SeqSet;
 use rh_key_files::KeyFault;
 use rh_operations::*;
 use rh_runner::Single;
+use rh_script::Action;
 use rh_shelf::{MemShelf, Shelf};
 use std::process::Abort;
 use std::sync::Wait;

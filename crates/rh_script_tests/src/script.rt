@@ -2,15 +2,22 @@ use rh_script::*;
 use std::process::Abort;
 use std::test::*;
 
+// The first word of a command that acts on a list.
+fn verb(action: Action) -> &'static str {
+    match action {
+        Action::Add => "add",
+        Action::Drop => "drop",
+        Action::Ask => "ask",
+        Action::Keep => "keep",
+        Action::Flip => "flip",
+    }
+}
+
 // The line of a step, and the words of its command.
 fn words(step: &Step) -> (u64, [&str; 3]) {
     let words = match &step.command {
         Command::Use { name, path } => ["use", name.as_str(), path.as_str()],
-        Command::Add { name } => ["add", name.as_str(), ""],
-        Command::Drop { name } => ["drop", name.as_str(), ""],
-        Command::Ask { name } => ["ask", name.as_str(), ""],
-        Command::Keep { name } => ["keep", name.as_str(), ""],
-        Command::Flip { name } => ["flip", name.as_str(), ""],
+        Command::Act { action, name } => [verb(*action), name.as_str(), ""],
         Command::Save { name } => ["save", name.as_str(), ""],
         Command::Clear => ["clear", "", ""],
         Command::Dump => ["dump", "", ""],
@@ -197,24 +204,6 @@ fn scripts_have_a_limit(rt: HostRuntime) -> Result<(), Fail> {
 const MIXED: &[u8] = b"use a a.keys\n# two lists\nuse b b.keys\nadd a\ndrop b\nask a\n\n\
 save c\nkeep c\nflip b\nclear\ndump\nuse d d.keys\nask d\nsnapshot s.snap\nuse e a.keys\nrestore s.snap\n";
 
-// The line of a step, the words of its task, and the number of its list.
-fn planned<'a>(step: &PlannedStep<'a>) -> (u64, [&'a str; 3], Option<usize>) {
-    let (words, list) = match step.task {
-        Task::Use { list, name, path } => (["use", name, path], Some(list)),
-        Task::Add { list, name } => (["add", name, ""], Some(list)),
-        Task::Drop { list, name } => (["drop", name, ""], Some(list)),
-        Task::Ask { list, name } => (["ask", name, ""], Some(list)),
-        Task::Keep { list, name } => (["keep", name, ""], Some(list)),
-        Task::Flip { list, name } => (["flip", name, ""], Some(list)),
-        Task::Save { list, name } => (["save", name, ""], Some(list)),
-        Task::Clear => (["clear", "", ""], None),
-        Task::Dump => (["dump", "", ""], None),
-        Task::Snapshot { path } => (["snapshot", path, ""], None),
-        Task::Restore { path } => (["restore", path, ""], None),
-    };
-    (step.line, words, list)
-}
-
 const MIXED_PLAN: &[(u64, [&str; 3], Option<usize>)] = &[
     (1, ["use", "a", "a.keys"], Some(0)),
     (3, ["use", "b", "b.keys"], Some(1)),
@@ -237,7 +226,8 @@ fn assert_plan(rt: &impl Abort, plan: &Plan<'_>, wanted: &[(u64, [&str; 3], Opti
     assert_eq!(rt; plan.len(), wanted.len());
     assert!(rt; !plan.is_empty());
     for (step, wanted) in plan.steps().iter().zip(wanted) {
-        assert_eq!(rt; planned(step), *wanted);
+        let (line, words) = words(step);
+        assert_eq!(rt; (line, words, step.list), *wanted);
     }
 }
 

@@ -10,9 +10,9 @@ use crate::layout::has_room;
 use rh_files::Counted;
 use rh_ledger::{Kind, Tally};
 use rh_planner::{
-    Cause, Command, CountedShelf, FaultyShelf, KeyFault, MemShelf, PhaseFault, Plan, PlannedStep,
+    Action, Cause, Command, CountedShelf, FaultyShelf, KeyFault, MemShelf, PhaseFault, Plan,
     Report, RunFault, Runner, Script, ScriptFault, ScriptFaultKind, Shelf, ShelfFailure,
-    ShelfFault, Single, SnapFault, Step, Task, Threads,
+    ShelfFault, Single, SnapFault, Step, Threads,
 };
 use std::alloc::{AllocError, Global};
 use std::io::Write;
@@ -31,7 +31,7 @@ pub fn script_steps(script: &Script) -> &[Step] {
     script.steps()
 }
 
-pub fn plan_steps<'a>(plan: &'a Plan<'a>) -> &'a [PlannedStep<'a>] {
+pub fn plan_steps<'a>(plan: &Plan<'a>) -> &'a [Step] {
     plan.steps()
 }
 
@@ -137,38 +137,23 @@ pub fn shelf_put<S: Shelf>(
     shelf.put(alloc, path, bytes)
 }
 
-pub fn commands(step: &Step, planned: PlannedStep<'_>) -> (u64, u64) {
+pub fn commands(step: &Step) -> (u64, Option<usize>) {
     match &step.command {
         Command::Use { name: _, path: _ }
-        | Command::Add { name: _ }
-        | Command::Drop { name: _ }
-        | Command::Ask { name: _ }
-        | Command::Keep { name: _ }
-        | Command::Flip { name: _ }
+        | Command::Act { action: _, name: _ }
         | Command::Save { name: _ }
         | Command::Clear
         | Command::Dump
         | Command::Snapshot { path: _ }
         | Command::Restore { path: _ } => {}
     }
-    match planned.task {
-        Task::Use {
-            list: _,
-            name: _,
-            path: _,
-        }
-        | Task::Add { list: _, name: _ }
-        | Task::Drop { list: _, name: _ }
-        | Task::Ask { list: _, name: _ }
-        | Task::Keep { list: _, name: _ }
-        | Task::Flip { list: _, name: _ }
-        | Task::Save { list: _, name: _ }
-        | Task::Clear
-        | Task::Dump
-        | Task::Snapshot { path: _ }
-        | Task::Restore { path: _ } => {}
+    (step.line, step.list)
+}
+
+pub fn actions(action: Action) {
+    match action {
+        Action::Add | Action::Drop | Action::Keep | Action::Flip | Action::Ask => {}
     }
-    (step.line, planned.line)
 }
 
 pub fn variants(kind: ScriptFaultKind, fault: ShelfFault, cause: Cause) {

@@ -1,15 +1,16 @@
-use Rattle.std.proofs.Common.{◌∙◌, ap, refl, length, rules, take}
+use Rattle.std.proofs.Common.{◌∙◌, ap, refl, length, rules}
 use Rattle.rh_script.specs.Names.{names_in}
+use Rattle.rh_script.specs.Script.{steps_of}
 use Rattle.rh_script_run.proofs.StepLemmas.{leaves_later}
 use Rattle.rh_script_run.proofs.RunLemmas.{all_carried_out, comes_after, goes_on, has_list, more_lists, reached_start, step_at, stops_here}
 use Rattle.rh_script_run.proofs.running.carry_out_all.Goals as goal
 
 pub carry_out-told-requires-after_bounds : goal.carry_out-told-requires-after_bounds
 carry_out-told-requires-after_bounds g c κs within =
-    let steps = c.requires.planned.0 in
+    let steps = steps_of c.args.script.now in
     let i = c.loop-step.step-index in
-    let here = step_at c.steps-step-items.result.now steps i _ (c.steps-step-items.ensures ∙ c.requires.planned.1) c.loop-step-test.true in
-    has_list _ (names_in (take i steps)) (length c.loop-step.lists.items) here.number (c.loop-step.invariant.many steps c.requires.planned.1)
+    let here = step_at c.steps-step-items.result.now steps i _ c.steps-step-items.ensures.numbered c.loop-step-test.true c.step-item.is in
+    has_list steps c.steps-step-items.ensures.in_order i _ here (length c.loop-step.lists.items) c.loop-step.invariant.many
 
 pub loop-step-init : goal.loop-step-init
 unfolding names_in
@@ -19,20 +20,22 @@ loop-step-init g c = record {
   read = refl;
   started = refl;
   written = refl;
-  many = λ steps planned. ap length c.new-lists.ensures.items;
-  reached = λ files steps known planned fresh. reached_start files _ c.args.set c.new-lists.result.items known c.requires.keys c.requires.bits c.new-lists.ensures.items;
+  many = ap length c.new-lists.ensures.items;
+  reached = λ files known. reached_start files _ c.args.set c.new-lists.result.items known c.requires.keys c.requires.bits c.new-lists.ensures.items;
 }
 
 pub returns-in-Err-clause-meant : goal.returns-in-Err-clause-meant
-returns-in-Err-clause-meant g c files steps known planned fresh =
+returns-in-Err-clause-meant g c files known =
+    let steps = steps_of c.args.script.now in
     let i = c.loop-step.step-index in
-    let here = step_at c.steps-step-items.result.now steps i _ (c.steps-step-items.ensures ∙ planned) c.loop-step-test.true in
-    let so_far = c.loop-step.invariant.reached files steps known planned fresh in
-    let ends = c.in-Err.ensures.step so_far.done.named so_far.done.made (comes_after files steps i _ _ _ here so_far fresh) in
+    let here = step_at c.steps-step-items.result.now steps i _ c.steps-step-items.ensures.numbered c.loop-step-test.true c.step-item.is in
+    let so_far = c.loop-step.invariant.reached files known in
+    let ends = c.in-Err.ensures.step so_far.done.named so_far.done.made (comes_after files steps i _ _ _ here so_far c.steps-step-items.ensures.in_order) in
     stops_here files steps i _ _ _ here so_far _ _ c.loop-step.invariant.fine c.loop-step.invariant.read c.loop-step.invariant.started ends
 
 pub loop-step-preserved : goal.loop-step-preserved
 loop-step-preserved g c =
+    let steps = steps_of c.args.script.now in
     let i = c.loop-step.step-index in
     record {
       still_unknown = λ unknown. c.in_default.ensures.leaves.shelf.still_unknown (c.loop-step.invariant.still_unknown unknown);
@@ -40,19 +43,19 @@ loop-step-preserved g c =
       read = c.in_default.ensures.leaves.shelf.none_read ∙ c.loop-step.invariant.read;
       started = c.in_default.ensures.leaves.runner.fine ∙ c.loop-step.invariant.started;
       written = c.in_default.ensures.leaves.writer.fine ∙ c.loop-step.invariant.written;
-      many = λ steps planned.
-          let here = step_at c.steps-step-items.result.now steps i _ (c.steps-step-items.ensures ∙ planned) c.loop-step-test.true in
-          more_lists steps i here.numbered _ _ _ here.more here.said (c.loop-step.invariant.many steps planned) c.in_default.ensures.lists;
-      reached = λ files steps known planned fresh.
-          let here = step_at c.steps-step-items.result.now steps i _ (c.steps-step-items.ensures ∙ planned) c.loop-step-test.true in
-          let so_far = c.loop-step.invariant.reached files steps known planned fresh in
-          let did = c.in_default.ensures.step so_far.done.named so_far.done.made (comes_after files steps i _ _ _ here so_far fresh) in
+      many =
+          let here = step_at c.steps-step-items.result.now steps i _ c.steps-step-items.ensures.numbered c.loop-step-test.true c.step-item.is in
+          more_lists steps i here.numbered _ _ _ here.more here.said c.loop-step.invariant.many c.in_default.ensures.lists;
+      reached = λ files known.
+          let here = step_at c.steps-step-items.result.now steps i _ c.steps-step-items.ensures.numbered c.loop-step-test.true c.step-item.is in
+          let so_far = c.loop-step.invariant.reached files known in
+          let did = c.in_default.ensures.step so_far.done.named so_far.done.made (comes_after files steps i _ _ _ here so_far c.steps-step-items.ensures.in_order) in
           goes_on files steps i _ _ _ here so_far _ did c.in_default.ensures.paths;
     }
 
 pub returns-clause-meant : goal.returns-clause-meant
-returns-clause-meant g c files steps known planned fresh =
-    all_carried_out files c.steps-step-items.result.now steps c.loop-step.step-index _ _ (c.steps-step-items.ensures ∙ planned) c.loop-step-test.false (c.loop-step.invariant.reached files steps known planned fresh)
+returns-clause-meant g c files known =
+    all_carried_out files c.steps-step-items.result.now (steps_of c.args.script.now) c.loop-step.step-index _ _ c.steps-step-items.ensures.numbered c.loop-step-test.false (c.loop-step.invariant.reached files known)
 
 pub returns-in-Err-clause-leaves : goal.returns-in-Err-clause-leaves
 returns-in-Err-clause-leaves g c =

@@ -1,8 +1,6 @@
-use Rattle.std.proofs.Common.{◌≡◌, List, None, Some, length, take}
-use Rattle.rh_script.specs.Instruction.{Numbered}
-use Rattle.rh_script.specs.Names.{SnapshotsAreNew, names_in}
-use Rattle.rh_script.specs.Plan.{plan_of}
-use Rattle.rh_script.specs.Tasks.{planned_of}
+use Rattle.std.proofs.Common.{◌≡◌, None, Some, length, take}
+use Rattle.rh_script.specs.Names.{names_in}
+use Rattle.rh_script.specs.Script.{steps_of}
 use Rattle.rh_shelf.specs.Shelf.{Files}
 use Rattle.rh_script_run.specs.Environment.{environment_of}
 use Rattle.rh_script_run.specs.Reached.{Reached}
@@ -15,9 +13,9 @@ invariant-loop-step g l = record {
   read : (g.S.Lender.state l.shelf).failed_reads ≡ (g.S.Lender.state l.fn.shelf).failed_reads;
   started : g.N.Runner.refused_starts l.runner ≡ g.N.Runner.refused_starts l.fn.runner;
   written : l.writer.failures ≡ l.fn.writer.failures;
-  many : (steps : List Numbered) → planned_of l.fn.plan ≡ plan_of steps → length l.lists.items ≡ length (names_in (take l.step-index steps));
-  reached : (files : Files) (steps : List Numbered) → (g.S.Lender.state l.fn.shelf).files ≡ Some files → planned_of l.fn.plan ≡ plan_of steps → SnapshotsAreNew steps
-      → Reached files (take l.step-index steps) (environment_of g.S.Lender.state g.N.Runner.refused_starts g.W.Write.contents l.fn.shelf l.fn.runner l.fn.writer) (record {
+  many : length l.lists.items ≡ length (names_in (take l.step-index (steps_of l.fn.script)));
+  reached : (files : Files) → (g.S.Lender.state l.fn.shelf).files ≡ Some files
+      → Reached files (take l.step-index (steps_of l.fn.script)) (environment_of g.S.Lender.state g.N.Runner.refused_starts g.W.Write.contents l.fn.shelf l.fn.runner l.fn.writer) (record {
         set = l.set;
         lists = l.lists.items;
         environment = environment_of g.S.Lender.state g.N.Runner.refused_starts g.W.Write.contents l.shelf l.runner l.writer;

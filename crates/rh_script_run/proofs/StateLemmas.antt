@@ -1,10 +1,14 @@
 -- From a step to what is left of the script's state.
-use Rattle.std.proofs.Common.{◌≡◌, sym, subst, refl, slice_index_or, ℕ, inl, inr, List, [], Option, Some, Result, Ok, Err}
+use Rattle.std.proofs.Common.{◌≡◌, sym, subst, refl, slice_index_or, ℕ, ◌<◌, inl, inr, List, [], Option, Some, None, IsSome, String, Result, Ok, Err}
 use Rattle.rh_edit.specs.Held.{Held}
 use Rattle.rh_report.specs.Account.{Account}
 use Rattle.rh_shelf.specs.Shelf.{Files}
-use Rattle.rh_script.specs.Instruction.{Instruction, Use, Add, Drop, Ask, Keep, Flip, Save, Clear, Dump, Snapshot, Restore}
+use Rattle.rh_script.specs.Instruction.{Instruction, Use, Act, Save, Clear, Dump, Snapshot, Restore}
+use Rattle.rh_script.specs.declared.action.Action.{Action}
+use Rattle.rh_script.specs.declared.script.Command.{Command}
+use Rattle.rh_script.specs.declared.script.Command.TheVariants as commands
 use Rattle.rh_script.specs.Plan.{position_of}
+use Rattle.std.specs.Global.{Global}
 use Rattle.rh_operations.specs.declared.cause.Cause.{Cause}
 use Rattle.rh_operations.specs.declared.cause.Cause.TheVariants as causes
 use Rattle.rh_operations.specs.declared.key_lists.KeyList.{KeyList}
@@ -13,7 +17,7 @@ use Rattle.rh_operations.specs.KeyLists.{Stands}
 use Rattle.rh_script_run.specs.Meaning.{ScriptState, Outcome, list_of, outcome_of}
 use Rattle.rh_script_run.specs.Ends.{IsMet, LeavesFiles, LeavesOthers, Step, TellsFront, step_in}
 use Rattle.rh_script_run.specs.Environment.{Environment}
-use Rattle.rh_script_run.specs.Steps.{ListsStand, Made, Makes, MakesLists, MakesState, Named, StateEnds, names_of, world_of}
+use Rattle.rh_script_run.specs.Steps.{ActsOn, ListsStand, Made, Makes, MakesLists, MakesState, Named, StateEnds, names_of, world_of}
 use Rattle.rh_script_run.specs.declared.told.Told.{Told}
 use Rattle.rh_operations.specs.Refusals.{RefusedBy}
 use Rattle.std.specs.Io.KnownBytes.{Appends}
@@ -27,11 +31,7 @@ IsPlain _ = Unit {0}
 
 others_left : (said : Instruction) (files : FileMap) (now : Option Files) → IsPlain said → HasFiles files now → LeavesOthers said files now
 others_left (Use name path) files now plain has = has
-others_left (Add name) files now plain has = has
-others_left (Drop name) files now plain has = has
-others_left (Ask name) files now plain has = has
-others_left (Keep name) files now plain has = has
-others_left (Flip name) files now plain has = has
+others_left (Act action name) files now plain has = has
 others_left (Save name) files now plain has = has
 others_left Clear files now plain has = has
 others_left Dump files now plain has = has
@@ -78,7 +78,15 @@ module _ (w : ScriptState) (said : Instruction) (before after : Environment) (fo
       let done : ScriptState × Account = (world_of set made.named made.files, account) in
       subst (StateEnds step found set lists) (sym is) (inr (refl, done, made.is, told), (done, made.is, made.has))
 
--- the list that a task names
+-- ---- the list that a step acts on
+
+pub has_number : (command : Command) (list : Option ℕ) (many : ℕ) (action : Action) (name : String Global) → ActsOn command list many → command ≡ commands.Act action name → IsSome list
+has_number command None many action name on is = absurd (subst (λ c. ActsOn c None many) is on)
+has_number command (Some list) many action name on is = refl
+
+pub is_within : (command : Command) (list : Option ℕ) (many : ℕ) (action : Action) (name : String Global) (i : ℕ) → ActsOn command list many → command ≡ commands.Act action name → list ≡ Some i → i < many
+is_within command list many action name i on is at = subst (λ l. ActsOn (commands.Act action name) l many) at (subst (λ c. ActsOn c list many) is on)
+
 pub list_at : (lists : List KeyList) (named : Named) (now : Option Files) (name : List ℕ) (i : ℕ) (list : KeyList) → ListsStand now lists named → position_of name (names_of named) ≡ Some i → list ≡ slice_index_or lists i list → Stands now list (list_of name named)
 list_at lists named now name i list stand source is =
     subst (λ l. Stands now l (list_of name named)) (sym is) (stands_at now lists named name i list stand source)

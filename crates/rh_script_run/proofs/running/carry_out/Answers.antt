@@ -1,23 +1,23 @@
 use Rattle.std.proofs.Common.{◌∙◌, ap, Err}
 use Rattle.std.proofs.KnownBytes.{Appends-nil}
 use Rattle.std.proofs.lemmas.Result.{err_from_is_err_and}
-use Rattle.rh_script.specs.Tasks.{task_as}
+use Rattle.rh_script.specs.Steps.{instruction_as}
 use Rattle.rh_script_run.specs.Steps.{world_of}
-use Rattle.rh_script_run.proofs.TaskLemmas.{refused_ends, untold_ends}
-use Rattle.rh_script_run.proofs.tasks.carry_out.Goals as goal
+use Rattle.rh_script_run.proofs.StateLemmas.{refused_ends, untold_ends}
+use Rattle.rh_script_run.proofs.running.carry_out.Goals as goal
 
 pub returns-in_err-told-clause-step : goal.returns-in_err-told-clause-step
 returns-in_err-told-clause-step g c named files after =
     let p = err_from_is_err_and c.from_residual.result c.from_residual.ensures.1 in
     let w = world_of c.args.set.now named files in
-    refused_ends w (task_as c.args.task.now).0 _ _ files _ _ _ _ (p.1 ∙ ap Err p.2) c.in_err-told.ensures.no_write (Appends-nil _) (c.in_err-told.ensures.made named files after)
+    refused_ends w (instruction_as c.args.step.now.command) _ _ files _ _ _ _ (p.1 ∙ ap Err p.2) c.in_err-told.ensures.no_write (Appends-nil _) (c.in_err-told.ensures.made named files after)
 
 pub returns-in_err-tell-clause-step : goal.returns-in_err-tell-clause-step
 returns-in_err-tell-clause-step g c named files after =
     let p = err_from_is_err_and c.from_residual-in_err-tell.result c.from_residual-in_err-tell.ensures.1 in
     let w = world_of c.args.set.now named files in
     let said = c.in_err-tell.ensures in
-    untold_ends w (task_as c.args.task.now).0 _ _ files _ _ _ (p.1 ∙ ap Err p.2) _ (c.in_ok-told.ensures.made named files after) (said.0, said.1, said.2.front)
+    untold_ends w (instruction_as c.args.step.now.command) _ _ files _ _ _ (p.1 ∙ ap Err p.2) _ (c.in_ok-told.ensures.made named files after) (said.0, said.1, said.2.front)
 
 pub returns-clause-step : goal.returns-clause-step
 returns-clause-step g c named files after =
