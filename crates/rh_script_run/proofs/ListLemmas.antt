@@ -2,16 +2,18 @@
 use Rattle.std.proofs.Common.{◌≡◌, ◌∙◌, ap, sym, subst, arith, ℕ, suc, ◌+◌, ◌<◌, inl, inr, Bool, List, [], ◌∷◌, ◌++◌, length, get_or, Option, Some, None}
 use Rattle.std.specs.Prelude.{nat_lt, unwrap_or}
 use Rattle.std.proofs.lemmas.Grind.{flat_map-append}
-use Rattle.std.proofs.lemmas.List.{append-nil}
+use Rattle.std.proofs.lemmas.List.{append-nil, length-append}
 use Rattle.std.specs.List.{position_or_len}
 use Rattle.std.specs.Str.{bytes_eq}
 use Rattle.std.proofs.lemmas.Bool.{cases_Bool, ltb-true}
 use Rattle.rh_shelf.specs.Shelf.{Files}
+use Rattle.rh_script.specs.Instruction.{Instruction}
+use Rattle.rh_script.specs.Names.{file_of, given_by}
 use Rattle.rh_script.specs.Plan.{position_of}
 use Rattle.rh_operations.specs.declared.key_lists.KeyList.{KeyList}
 use Rattle.rh_operations.specs.KeyLists.{Stands, path_of, paths_of}
 use Rattle.rh_script_run.specs.Meaning.{list_of}
-use Rattle.rh_script_run.specs.Steps.{ListsStand, Named, names_of}
+use Rattle.rh_script_run.specs.Steps.{ListsGrow, ListsStand, Named, names_of}
 
 pub one_more_stands : (files : Option Files) (lists : List KeyList) (named : Named) (list : KeyList) (name keys : List ℕ) → ListsStand files lists named → Stands files list keys → ListsStand files (lists ++ list ∷ []) (named ++ (name, keys) ∷ [])
 one_more_stands files [] [] list name keys stand new = (new, tt)
@@ -63,3 +65,14 @@ stands_at files lists named name i d stand is =
 pub paths_more : (lists new : List KeyList) (list : KeyList) → new ≡ lists ++ list ∷ [] → paths_of new ≡ paths_of lists ++ path_of list.source
 paths_more lists new list is =
     ap paths_of is ∙ flat_map-append (λ (l : KeyList). path_of l.source) lists (list ∷ []) ∙ ap (λ paths. paths_of lists ++ paths) (append-nil (path_of list.source))
+
+-- ---- what a step gives
+
+pub one_longer : (lists new : List KeyList) (list : KeyList) → new ≡ lists ++ list ∷ [] → length new ≡ length lists + 1
+one_longer lists new list is = ap length is ∙ length-append lists (list ∷ [])
+
+pub none_given : (said : Instruction) (lists : List KeyList) → given_by said ≡ [] → file_of said ≡ [] → ListsGrow said lists lists
+none_given said lists no_name no_file = record {
+  more = rw no_name (omega arith);
+  paths = rw no_file (sym (append-nil (paths_of lists)));
+}

@@ -1,5 +1,5 @@
 -- What a step makes.
-use Rattle.std.proofs.Common.{◌≡◌, ◌∙◌, ap, sym, subst, ℕ, ◌⊎◌, inl, inr, List, [], ◌∷◌, ◌++◌, length, None, Result, Ok, Err}
+use Rattle.std.proofs.Common.{◌≡◌, ◌∙◌, ap, sym, subst, ℕ, ◌⊎◌, inl, inr, List, [], ◌∷◌, ◌++◌, length, Option, Some, None, Result, Ok, Err}
 use Rattle.std.specs.FinSet as set
 use Rattle.rh_edit.specs.Held.{Held}
 use Rattle.rh_script_run.specs.Files.{FileMap}
@@ -8,10 +8,16 @@ use Rattle.rh_report.specs.Account as accounts
 use Rattle.rh_operations.specs.declared.cause.Cause.{Cause}
 use Rattle.rh_bytes.specs.Counting.{Rose}
 use Rattle.rh_bytes.specs.Input.{◌>>=◌}
-use Rattle.rh_shelf.specs.Shelf.{ShelfState}
+use Rattle.rh_script.specs.declared.action.Action.{Action}
+use Rattle.rh_operations.specs.declared.key_lists.KeyList.{KeyList}
+use Rattle.rh_operations.specs.Actions.{Telling, made_of, means}
+use Rattle.rh_operations.specs.KeyLists.{Gave, Stands, source_bytes}
+use Rattle.rh_operations.proofs.Standing.{given, known_stands, made_again}
+use Rattle.rh_script_run.specs.Told.{account_of}
+use Rattle.rh_shelf.specs.Shelf.{Files, ShelfState}
 use Rattle.rh_operations.specs.Leaves.{KeepsShelf}
 use Rattle.rh_script_run.specs.Ends.{LeavesShelf}
-use Rattle.rh_script_run.specs.Meaning.{Outcome, keys_at_path, restores, table_at, uses}
+use Rattle.rh_script_run.specs.Meaning.{Outcome, acts, keys_at_path, restores, table_at, uses}
 use Rattle.rh_script_run.specs.Steps.{Named, world_of}
 
 -- ---- refusals
@@ -21,9 +27,24 @@ module _ {Out : Type 0} (cause : Cause) where
   found_refused found said make same (inl is) = inl (ap (λ r. r >>= make) (sym same ∙ is))
   found_refused found said make same (inr out) = inr out
 
-  pub same_refused : (a b : Outcome) → a ≡ b → (b ≡ Err cause) ⊎ Out → (a ≡ Err cause) ⊎ Out
-  same_refused a b same (inl is) = inl (same ∙ is)
-  same_refused a b same (inr out) = inr out
+-- ---- an action on the keys of a list
+
+module _ (now : Option Files) (list : KeyList) (named : Named) (files : FileMap) (name keys : List ℕ) (action : Action) (old : Held) where
+  -- it made what it means in the script
+  pub action_done : (new : Held) (telling : Telling) → Stands now list keys → (found : List ℕ) × Gave now list found × (means action old found ≡ Ok (new, telling))
+      → acts action (world_of old named files) name keys ≡ Ok (world_of new named files, account_of name list.count new telling)
+  action_done new telling stands done =
+      let known = known_stands now list keys stands in
+      let made = given (λ k. means action old k ≡ Ok (new, telling)) now list keys stands done in
+      ap (λ r. r >>= (λ m. Ok (world_of m.0 named files, account_of name (length keys) m.0 m.1))) made
+      ∙ (λ i. Ok (world_of new named files, account_of name (known.2.1 i) new telling))
+
+  -- it was refused as it would be there
+  pub action_refused : {Out : Type 0} (cause : Cause) → Stands now list keys → ((known : Files) → now ≡ Some known → (made_of action old list.count (source_bytes known list.source) ≡ Err cause) ⊎ Out)
+      → (acts action (world_of old named files) name keys ≡ Err cause) ⊎ Out
+  action_refused cause stands refused =
+      let known = known_stands now list keys stands in
+      found_refused cause _ _ _ (made_again known.0 list keys action old known.2) (refused known.0 known.1)
 
 -- ---- what is left of a shelf
 

@@ -1,17 +1,16 @@
 -- How far a script has come.
-use Rattle.std.specs.Prelude.{◌≡◌, ℕ, List, Result, Ok, Err}
+use Rattle.std.specs.Prelude.{◌≡◌, ℕ, List, Ok}
 use Rattle.std.specs.Io.KnownBytes.{Appends}
 use Rattle.rh_edit.specs.Held.{Held}
 use Rattle.rh_report.specs.Account.{Account}
 use Rattle.rh_script.specs.Instruction.{Numbered}
 use Rattle.rh_script.specs.Names.{files_in, names_in}
 use Rattle.rh_shelf.specs.Shelf.{Files}
-use Rattle.rh_script_run.specs.declared.fault.RunFault.{RunFault}
 use Rattle.rh_operations.specs.declared.key_lists.KeyList.{KeyList}
 use Rattle.rh_operations.specs.KeyLists.{paths_of}
 use Rattle.rh_script_run.specs.Files.{FileMap, HasFiles}
 use Rattle.rh_script_run.specs.Meaning.{meaning, start}
-use Rattle.rh_script_run.specs.Ends.{SaysAll, Stopped}
+use Rattle.rh_script_run.specs.Ends.{SaysAll}
 use Rattle.rh_script_run.specs.Environment.{Environment}
 use Rattle.rh_script_run.specs.Steps.{ListsStand, Named, names_of, world_of}
 
@@ -38,7 +37,3 @@ pub record Reached (files : Files) (steps : List Numbered) (old : Environment) (
   pub stand : ListsStand now.environment.files now.lists done.named
   pub names : names_of done.named ≡ names_in steps
   pub paths : paths_of now.lists ≡ files_in steps
-
-abbrev pub AllEnds : (files : Files) → List Numbered → (old new : Environment) → Result Held RunFault → Type 0
-AllEnds files steps old new (Ok set) = CarriedOut files steps set old new
-AllEnds files steps old new (Err fault) = Stopped files steps old new fault

@@ -1,9 +1,9 @@
 -- What the code has of a script's world, and what a step makes of it.
-use Rattle.std.specs.Prelude.{◌≡◌, ℕ, ◌<◌, false, List, [], ◌∷◌, map, Option, Some, None, Result, Ok, MatchResult}
+use Rattle.std.specs.Prelude.{◌≡◌, ℕ, ◌+◌, ◌<◌, false, List, [], ◌∷◌, ◌++◌, length, map, Option, Some, None, Result, Ok, MatchResult}
 use Rattle.rh_edit.specs.Held.{Held}
 use Rattle.rh_shelf.specs.Shelf.{Files}
 use Rattle.rh_script.specs.Instruction.{Instruction, Snapshot}
-use Rattle.rh_script.specs.Names.{is_given}
+use Rattle.rh_script.specs.Names.{file_of, given_by, is_given}
 use Rattle.rh_script.specs.Plan.{number_after}
 use Rattle.rh_script.specs.Steps.{instruction_as}
 use Rattle.rh_script.specs.declared.script.Command.{Command}
@@ -89,6 +89,11 @@ pub record ComesAfter (step : ScriptStep) (named : Named) (files : FileMap) (lis
   pub stand : ListsStand now lists named
   pub number : number_after (names_of named) (instruction_as step.command) ≡ step.list
   pub apart : (path : List ℕ) → instruction_as step.command ≡ Snapshot path → is_given path (paths_of lists) ≡ false
+
+-- An instruction gives its list, and its path if that is a file's.
+pub record ListsGrow (said : Instruction) (old new : List KeyList) : Type 0 where
+  pub more : length new ≡ length old + length (given_by said)
+  pub paths : paths_of new ≡ paths_of old ++ file_of said
 
 -- A command makes of a world what it means, or is refused by what that means or by a cause from outside.
 abbrev pub Performs : Instruction → ScriptState → (old new : Outside) → Held → List KeyList → Result Told Cause → Type 0

@@ -51,6 +51,7 @@ mod running;
 mod steps;
 mod told;
 mod twice;
+mod workspace;
 
 pub use fault::RunFault;
 pub use laws::{ends_as_meant, only_what_is_read_matters, runs_agree, texts_agree};

@@ -1,30 +1,26 @@
 //! The run of a script.
 
-ghost use Rattle.std.specs.Prelude.{◌≡◌, ◌≢◌, ◌+◌, ◌++◌, Some, IfErr, OnErr, OnOk, length};
-ghost use Rattle.std.specs.FinSet as finset;
-ghost use Rattle.rh_layout.specs.declared.limits.TheConstants.{MIN_BITS};
+ghost use Rattle.std.specs.Prelude.{◌≡◌, ◌≢◌, Some, IfErr, OnErr, OnOk, length};
 ghost use Rattle.rh_bytes.specs.Counting.{failures_of};
-ghost use Rattle.rh_script.specs.Names.{file_of, given_by};
 ghost use Rattle.rh_script.specs.Script.{steps_of};
 ghost use Rattle.rh_script.specs.Steps.{instruction_as};
-ghost use Rattle.rh_operations.specs.KeyLists.{paths_of};
 ghost use Rattle.rh_operations.specs.Outside.{outside};
 ghost use Rattle.rh_shelf.specs.Shelf.{Files};
 ghost use Rattle.rh_script_run.specs.Ends.{Ends, LeavesAll, LeavesOutside, cause_of, step_in};
 ghost use Rattle.rh_script_run.specs.Environment.{environment_of};
 ghost use Rattle.rh_script_run.specs.Files.{FileMap};
-ghost use Rattle.rh_script_run.specs.Reached.{AllEnds};
-ghost use Rattle.rh_script_run.specs.Steps.{ComesAfter, HasList, Named, Performs, StateEnds};
-ghost use Rattle.rh_script_run.specs.Steps.{world_of};
+ghost use Rattle.rh_script_run.specs.Steps.{ComesAfter, HasList, ListsGrow, Named, Performs};
+ghost use Rattle.rh_script_run.specs.Steps.{StateEnds, world_of};
 
 use crate::fault::RunFault;
 use crate::report::Report;
-use crate::steps::{clear_step, list_step, restore_step, save_step, snapshot_step, use_step};
-use crate::told::{Told, tell};
+use crate::steps::{clear_step, restore_step, save_step, snapshot_step, use_step};
+use crate::told::{Told, tell, told_of};
+use crate::workspace::Workspace;
 use rh_bytes::Counted;
 use rh_edit::SeqSet;
 use rh_layout::MIN_BITS;
-use rh_operations::{Cause, KeyList};
+use rh_operations::{Cause, operate};
 use rh_runner::Runner;
 use rh_script::{Command, Script, Step};
 use rh_shelf::Lender;
@@ -60,48 +56,24 @@ pub fn run<T: Threads + Wait + Sync, S: Lender, N: Runner, W: Write>(
         (outside S.state N.refused_starts shelf.new runner.new)
         (failures_of writer.old) (failures_of writer.new) (cause_of result) }
 {
-    let Ok(empty) = SeqSet::new(alloc, MIN_BITS) else {
+    let Ok(set) = SeqSet::new(alloc, MIN_BITS) else {
         let (line, cause) = (0, Cause::Memory);
         return Err(RunFault { line, cause });
     };
-    let set = carry_out_all(rt, alloc, shelf, runner, writer, empty, script)?;
-    Ok(Report {
-        commands: script.len() as u64,
-        held: set.len() as u64,
-        bits: set.bits(),
-    })
-}
-
-/// Carries out the steps of a script, from an empty set on, and gives the set that they made.
-fn carry_out_all<T: Threads + Wait + Sync, S: Lender, N: Runner, W: Write>(
-    rt: &T,
-    alloc: Global,
-    shelf: &mut S,
-    runner: &mut N,
-    writer: &mut Counted<W>,
-    mut set: SeqSet,
-    script: &Script,
-) -> Result<SeqSet, RunFault>
-    requires keys { set.keys ≡ finset.empty }
-    requires bits { set.bits ≡ MIN_BITS }
-    ensures meant { (files : Files) → (S.state shelf.old).files ≡ Some files →
-        AllEnds files (steps_of script.now)
-        (environment_of S.state N.refused_starts W.contents shelf.old runner.old writer.old)
-        (environment_of S.state N.refused_starts W.contents shelf.new runner.new writer.new)
-        result }
-    ensures leaves { LeavesAll (outside S.state N.refused_starts shelf.old runner.old)
-        (outside S.state N.refused_starts shelf.new runner.new)
-        (failures_of writer.old) (failures_of writer.new) (cause_of result) }
-{
-    let mut lists = Vec::new(alloc);
+    let lists = Vec::new(alloc);
+    let mut workspace = Workspace { set, lists };
     for step in script.steps() {
-        let told = carry_out(rt, alloc, shelf, runner, writer, &mut set, &mut lists, step);
+        let told = carry_out(rt, alloc, shelf, runner, writer, &mut workspace, step);
         if let Err(cause) = told {
             let line = step.line;
             return Err(RunFault { line, cause });
         }
     }
-    Ok(set)
+    Ok(Report {
+        commands: script.len() as u64,
+        held: workspace.set.len() as u64,
+        bits: workspace.set.bits(),
+    })
 }
 
 /// Carries a step out and writes its report.
@@ -111,28 +83,25 @@ fn carry_out<'a, T: Threads + Wait + Sync, S: Lender, N: Runner, W: Write>(
     shelf: &mut S,
     runner: &mut N,
     writer: &mut Counted<W>,
-    set: &mut SeqSet,
-    lists: &mut Vec<KeyList<'a>>,
+    workspace: &mut Workspace<'a>,
     step: &'a Step,
 ) -> Result<(), Cause>
-    requires { HasList step.now (length lists.old.items) }
+    requires { HasList step.now (length workspace.old.lists.items) }
     ensures step { (named : Named) (files : FileMap) →
-        ComesAfter step.now named files lists.old.items (S.state shelf.old).files →
-        StateEnds (step_in (world_of set.old named files) (instruction_as step.now.command)
+        ComesAfter step.now named files workspace.old.lists.items (S.state shelf.old).files →
+        StateEnds (step_in (world_of workspace.old.set named files) (instruction_as step.now.command)
         (environment_of S.state N.refused_starts W.contents shelf.old runner.old writer.old)
         (environment_of S.state N.refused_starts W.contents shelf.new runner.new writer.new))
-        files set.new lists.new.items result }
-    ensures lists { OnOk result (length lists.new.items
-        ≡ length lists.old.items + length (given_by (instruction_as step.now.command))) }
-    ensures paths { OnOk result (paths_of lists.new.items
-        ≡ paths_of lists.old.items ++ file_of (instruction_as step.now.command)) }
-    ensures unchanged { IfErr result (λ cause. cause ≢ Cause.Write → set.new ≡ set.old) }
+        files workspace.new.set workspace.new.lists.items result }
+    ensures grow { OnOk result (ListsGrow (instruction_as step.now.command)
+        workspace.old.lists.items workspace.new.lists.items) }
+    ensures unchanged { IfErr result (λ cause. cause ≢ Cause.Write → workspace.new.set ≡ workspace.old.set) }
     ensures leaves { LeavesAll (outside S.state N.refused_starts shelf.old runner.old)
         (outside S.state N.refused_starts shelf.new runner.new)
         (failures_of writer.old) (failures_of writer.new) result }
 {
-    let told = act(rt, alloc, shelf, runner, set, lists, step)?;
-    tell(writer, set, &told)?;
+    let told = act(rt, alloc, shelf, runner, workspace, step)?;
+    tell(writer, &workspace.set, &told)?;
     Ok(())
 }
 
@@ -143,36 +112,34 @@ fn act<'a, T: Threads + Wait + Sync, S: Lender, N: Runner>(
     alloc: Global,
     shelf: &mut S,
     runner: &mut N,
-    set: &mut SeqSet,
-    lists: &mut Vec<KeyList<'a>>,
+    workspace: &mut Workspace<'a>,
     step: &'a Step,
 ) -> Result<Told<'a>, Cause>
-    requires { HasList step.now (length lists.old.items) }
+    requires { HasList step.now (length workspace.old.lists.items) }
     ensures made { (named : Named) (files : FileMap) →
-        ComesAfter step.now named files lists.old.items (S.state shelf.old).files →
-        Performs (instruction_as step.now.command) (world_of set.old named files)
+        ComesAfter step.now named files workspace.old.lists.items (S.state shelf.old).files →
+        Performs (instruction_as step.now.command) (world_of workspace.old.set named files)
         (outside S.state N.refused_starts shelf.old runner.old)
         (outside S.state N.refused_starts shelf.new runner.new)
-        set.new lists.new.items result }
-    ensures lists { OnOk result (length lists.new.items
-        ≡ length lists.old.items + length (given_by (instruction_as step.now.command))) }
-    ensures paths { OnOk result (paths_of lists.new.items
-        ≡ paths_of lists.old.items ++ file_of (instruction_as step.now.command)) }
-    ensures unchanged { OnErr result (set.new ≡ set.old) }
+        workspace.new.set workspace.new.lists.items result }
+    ensures grow { OnOk result (ListsGrow (instruction_as step.now.command)
+        workspace.old.lists.items workspace.new.lists.items) }
+    ensures unchanged { OnErr result (workspace.new.set ≡ workspace.old.set) }
     ensures leaves { LeavesOutside (outside S.state N.refused_starts shelf.old runner.old)
         (outside S.state N.refused_starts shelf.new runner.new) result }
     ensures no_write { IfErr result (λ cause. cause ≡ Cause.Write → ⊥) }
 {
     match &step.command {
-        Command::Use { name, path } => use_step(alloc, shelf, lists, name, path),
+        Command::Use { name, path } => use_step(alloc, shelf, &mut workspace.lists, name, path),
         Command::Act { action, name } => {
-            let list = &lists[step.list.unwrap()];
-            list_step(rt, alloc, shelf, runner, set, list, name, *action)
+            let list = &workspace.lists[step.list.unwrap()];
+            let done = operate(rt, alloc, shelf, runner, &mut workspace.set, list, *action)?;
+            Ok(told_of(&workspace.set, list, name, done))
         }
-        Command::Save { name } => save_step(alloc, set, lists, name),
-        Command::Clear => clear_step(alloc, set),
+        Command::Save { name } => save_step(alloc, &workspace.set, &mut workspace.lists, name),
+        Command::Clear => clear_step(alloc, &mut workspace.set),
         Command::Dump => Ok(Told::Dump),
-        Command::Snapshot { path } => snapshot_step(alloc, shelf, set, path),
-        Command::Restore { path } => restore_step(alloc, shelf, set, path),
+        Command::Snapshot { path } => snapshot_step(alloc, shelf, &workspace.set, path),
+        Command::Restore { path } => restore_step(alloc, shelf, &mut workspace.set, path),
     }
 }

@@ -1,90 +1,27 @@
-//! The commands, without the writing of their reports.
+//! The commands that act on no list, without the writing of their reports.
 
-ghost use Rattle.std.specs.Prelude.{◌≡◌, ◌+◌, ℕ, false, List, [], ◌∷◌, ◌++◌, Some, IfErr, OnErr};
-ghost use Rattle.std.specs.Prelude.{OnOk, Option, length};
+ghost use Rattle.std.specs.Prelude.{◌≡◌, false, List, Some, IfErr, OnErr, OnOk, Option};
 ghost use Rattle.rh_edit.specs.Held.{Held};
-ghost use Rattle.rh_script.specs.Instruction.{Snapshot};
+ghost use Rattle.rh_script.specs.Instruction.{Save, Snapshot, Use};
 ghost use Rattle.rh_script.specs.Names.{is_given};
 ghost use Rattle.rh_shelf.specs.Shelf.{Files};
 ghost use Rattle.rh_operations.specs.declared.key_lists.KeyList.{KeyList};
-ghost use Rattle.rh_operations.specs.Actions.{telling};
-ghost use Rattle.rh_operations.specs.KeyLists.{Stands, paths_of};
-ghost use Rattle.rh_operations.specs.Leaves.{Leaves, UsesShelf};
-ghost use Rattle.rh_operations.specs.Outside.{outside};
-ghost use Rattle.rh_operations.specs.Refusals.{ListFails, MemoryFails, PhaseFails, PutFails};
-ghost use Rattle.rh_operations.specs.Refusals.{RestoreFails};
+ghost use Rattle.rh_operations.specs.KeyLists.{paths_of};
+ghost use Rattle.rh_operations.specs.Leaves.{UsesShelf};
+ghost use Rattle.rh_operations.specs.Refusals.{ListFails, MemoryFails, PutFails, RestoreFails};
 ghost use Rattle.rh_script_run.specs.Ends.{LeavesShelf};
 ghost use Rattle.rh_script_run.specs.Files.{FileMap, HasFiles};
-ghost use Rattle.rh_script_run.specs.Meaning.{acts, clears, restores, saves, snapshots, uses};
-ghost use Rattle.rh_script_run.specs.Steps.{ListsStand, Makes, MakesLists, MakesState, Named, world_of};
-ghost use Rattle.rh_script_run.specs.Told.{account_of, report_table, told_as};
+ghost use Rattle.rh_script_run.specs.Meaning.{clears, restores, saves, snapshots, uses};
+ghost use Rattle.rh_script_run.specs.Steps.{ListsGrow, ListsStand, Makes, MakesLists, MakesState};
+ghost use Rattle.rh_script_run.specs.Steps.{Named, world_of};
 
-use crate::told::Told;
+use crate::told::{Told, table_of};
 use rh_edit::SeqSet;
 use rh_layout::MIN_BITS;
-use rh_operations::{
-    Cause, Done, KeyList, Source, operate, put_snapshot, restored, saved, use_file,
-};
-use rh_report::{Account, Table};
-use rh_runner::Runner;
-use rh_script::Action;
+use rh_operations::{Cause, KeyList, Source, put_snapshot, restored, saved, use_file};
+use rh_report::Account;
 use rh_shelf::Lender;
 use std::alloc::Global;
-use std::sync::Wait;
-use std::thread::Threads;
-
-/// A command on the keys of a list.
-pub(crate) fn list_step<'a, T: Threads + Wait + Sync, S: Lender, N: Runner>(
-    rt: &T,
-    alloc: Global,
-    shelf: &mut S,
-    runner: &mut N,
-    set: &mut SeqSet,
-    list: &KeyList<'_>,
-    name: &'a str,
-    action: Action,
-) -> Result<Told<'a>, Cause>
-    ensures made { (lists : Named) (files : FileMap) (keys : List ℕ) →
-        Stands (S.state shelf.old).files list.now keys →
-        Makes (acts action (world_of set.old lists files) name.now keys)
-        (PhaseFails (outside S.state N.refused_starts shelf.old runner.old)
-        (outside S.state N.refused_starts shelf.new runner.new))
-        (world_of set.new lists files) set.new result }
-    ensures unchanged { OnErr result (set.new ≡ set.old) }
-    ensures leaves { Leaves (outside S.state N.refused_starts shelf.old runner.old)
-        (outside S.state N.refused_starts shelf.new runner.new) result }
-{
-    let done = operate(rt, alloc, shelf, runner, set, list, action)?;
-    Ok(told_of(set, list, name, done))
-}
-
-/// What a command on a list, which left this set, has to report.
-fn told_of<'a>(set: &SeqSet, list: &KeyList<'_>, name: &'a str, done: Done) -> Told<'a>
-    ensures { told_as set.now result
-        ≡ account_of name.now list.now.count set.now (telling done) }
-{
-    match done {
-        Done::Changed(change) => {
-            let read = list.count;
-            let table = table_of(set);
-            Told::Line(Account::Changed {
-                name,
-                read,
-                change,
-                table,
-            })
-        }
-        Done::Asked(answers) => Told::Answers { name, answers },
-    }
-}
-
-fn table_of(set: &SeqSet) -> Table
-    ensures { result ≡ report_table set.now }
-{
-    let held = set.len() as u64;
-    let bits = set.bits();
-    Table { held, bits }
-}
 
 /// `use`: the file at the path becomes a list.
 pub(crate) fn use_step<'a, S: Lender>(
@@ -100,9 +37,8 @@ pub(crate) fn use_step<'a, S: Lender>(
         MakesLists (uses (world_of set named files) name.now path.now)
         (ListFails (S.state shelf.old) (S.state shelf.new))
         files (S.state shelf.old).files set lists.new.items result }
-    ensures more { OnOk result (length lists.new.items ≡ length lists.old.items + 1) }
-    ensures paths { OnOk result
-        (paths_of lists.new.items ≡ paths_of lists.old.items ++ path.now ∷ []) }
+    ensures grow { OnOk result
+        (ListsGrow (Use name.now path.now) lists.old.items lists.new.items) }
     ensures shelf { UsesShelf (S.state shelf.old) (S.state shelf.new) result }
 {
     let count = use_file(alloc, shelf, path)?;
@@ -124,8 +60,7 @@ pub(crate) fn save_step<'a>(
         now ≡ Some known → ListsStand now lists.old.items named →
         MakesLists (saves (world_of set.now named files) name.now) MemoryFails
         files now set.now lists.new.items result }
-    ensures more { OnOk result (length lists.new.items ≡ length lists.old.items + 1) }
-    ensures paths { OnOk result (paths_of lists.new.items ≡ paths_of lists.old.items) }
+    ensures grow { OnOk result (ListsGrow (Save name.now) lists.old.items lists.new.items) }
     ensures memory { IfErr result (λ cause. cause ≡ Cause.Memory) }
 {
     let list = saved(alloc, set)?;

@@ -9,13 +9,13 @@ use Rattle.rh_script_run.proofs.running.carry_out.Goals as goal
 pub returns-in_err-told-clause-step : goal.returns-in_err-told-clause-step
 returns-in_err-told-clause-step g c named files after =
     let p = err_from_is_err_and c.from_residual.result c.from_residual.ensures.1 in
-    let w = world_of c.args.set.now named files in
+    let w = world_of c.args.workspace.now.set named files in
     refused_ends w (instruction_as c.args.step.now.command) _ _ files _ _ _ _ (p.1 ∙ ap Err p.2) c.in_err-told.ensures.no_write (Appends-nil _) (c.in_err-told.ensures.made named files after)
 
 pub returns-in_err-tell-clause-step : goal.returns-in_err-tell-clause-step
 returns-in_err-tell-clause-step g c named files after =
     let p = err_from_is_err_and c.from_residual-in_err-tell.result c.from_residual-in_err-tell.ensures.1 in
-    let w = world_of c.args.set.now named files in
+    let w = world_of c.args.workspace.now.set named files in
     let said = c.in_err-tell.ensures in
     untold_ends w (instruction_as c.args.step.now.command) _ _ files _ _ _ (p.1 ∙ ap Err p.2) _ (c.in_ok-told.ensures.made named files after) (said.0, said.1, said.2.front)
 

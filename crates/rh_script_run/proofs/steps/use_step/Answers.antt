@@ -5,7 +5,7 @@ use Rattle.rh_operations.specs.declared.key_lists.Source.TheVariants.{Path}
 use Rattle.rh_operations.specs.KeyLists.{Stands}
 use Rattle.rh_script_run.specs.Steps.{ListsStand}
 use Rattle.rh_script_run.proofs.FileLemmas.{known_files, same_keys}
-use Rattle.rh_script_run.proofs.ListLemmas.{one_more_stands, paths_more}
+use Rattle.rh_script_run.proofs.ListLemmas.{one_longer, one_more_stands, paths_more}
 use Rattle.rh_script_run.proofs.StepLemmas.{found_refused, uses_is}
 use Rattle.rh_script_run.proofs.steps.use_step.Goals as goal
 
@@ -31,8 +31,8 @@ returns-clause-made g c set named files has stand =
     let stands = subst (λ lists. ListsStand before lists (named ++ (name, used.0) ∷ [])) (sym pushed) (one_more_stands before c.args.lists.now.items named list name used.0 stand here) in
     (_, uses_is set named files name path used.0 c.in_ok-count.count (sym same ∙ used.1) used.2, stands)
 
-pub returns-clause-paths : goal.returns-clause-paths
-returns-clause-paths g c =
+pub returns-clause-grow : goal.returns-clause-grow
+returns-clause-grow g c =
     let list : KeyList = record { source = Path c.args.path; count = c.in_ok-count.count } in
     let pushed : c.push.new.self.items ≡ c.args.lists.now.items ++ list ∷ [] = search rules in
-    paths_more c.args.lists.now.items _ list pushed
+    record { more = one_longer c.args.lists.now.items _ list pushed; paths = paths_more c.args.lists.now.items _ list pushed }

@@ -4,7 +4,7 @@ use Rattle.rh_script.specs.Script.{steps_of}
 use Rattle.rh_shelf.specs.Shelf.{Files}
 use Rattle.rh_script_run.specs.Environment.{environment_of}
 use Rattle.rh_script_run.specs.Reached.{Reached}
-use Rattle.rh_script_run.proofs.running.carry_out_all.Given as goal
+use Rattle.rh_script_run.proofs.running.run.Given as goal
 
 abbrev pub invariant-loop-step : goal.invariant-loop-step
 invariant-loop-step g l = record {
@@ -13,11 +13,11 @@ invariant-loop-step g l = record {
   read : (g.S.Lender.state l.shelf).failed_reads ≡ (g.S.Lender.state l.fn.shelf).failed_reads;
   started : g.N.Runner.refused_starts l.runner ≡ g.N.Runner.refused_starts l.fn.runner;
   written : l.writer.failures ≡ l.fn.writer.failures;
-  many : length l.lists.items ≡ length (names_in (take l.step-index (steps_of l.fn.script)));
+  many : length l.workspace.lists.items ≡ length (names_in (take l.step-index (steps_of l.fn.script)));
   reached : (files : Files) → (g.S.Lender.state l.fn.shelf).files ≡ Some files
       → Reached files (take l.step-index (steps_of l.fn.script)) (environment_of g.S.Lender.state g.N.Runner.refused_starts g.W.Write.contents l.fn.shelf l.fn.runner l.fn.writer) (record {
-        set = l.set;
-        lists = l.lists.items;
+        set = l.workspace.set;
+        lists = l.workspace.lists.items;
         environment = environment_of g.S.Lender.state g.N.Runner.refused_starts g.W.Write.contents l.shelf l.runner l.writer;
       });
 }
