@@ -4,8 +4,8 @@ ghost use Rattle.std.specs.Prelude.{◌<◌};
 
 use std::alloc::Global;
 
-/// A number of workers: at least one. Some dozens are meant, as the stack of who starts their threads
-/// may grow with it.
+/// A number of workers: at least one. Some dozens are meant, as the stack of who starts their
+/// threads may grow with it.
 #[derive(Clone, Copy, Debug, PartialEq, Eq)]
 pub struct Workers {
     pub count: usize,
@@ -51,8 +51,12 @@ pub struct Team<'a, T> {
 }
 
 impl<'a, T> Team<'a, T> {
+    ghost use Rattle.std.specs.Prelude.{◌≡◌};
+
     /// One worker of the team.
-    pub fn alone(&self) -> Team<'a, T> {
+    pub fn alone(&self) -> Team<'a, T>
+        ensures { result.workers.count ≡ 1 }
+    {
         Team {
             rt: self.rt,
             alloc: self.alloc,

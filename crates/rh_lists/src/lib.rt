@@ -3,7 +3,7 @@
 //! `rh_list_files` stands on it.
 //!
 //! ```text
-//! let list = read_list(&rt, alloc, 4, &mut Counted::new(file), &mut Nobody)?;
+//! let list = read_list(&team, &mut Counted::new(file), &mut Nobody)?;
 //! for piece in list.pieces() { .. }
 //! ```
 //!
