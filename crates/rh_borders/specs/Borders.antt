@@ -33,3 +33,7 @@ pub record IsCut (borders keys : List ℕ) (pieces : List (List (List ℕ))) : T
 pub record AreCut (borders : List ℕ) (lists : List (List ℕ)) (cut : List (List (List (List ℕ)))) : Type 0 where
   pub many : All (λ (pieces : List (List (List ℕ))). All (λ (parts : List (List ℕ)). length parts + 1 ≡ length borders) pieces) cut
   pub each : (p : ℕ) → p + 1 < length borders → map (λ pieces. part_of pieces p) cut ≡ map (between borders p (p + 1)) lists
+
+-- it is cut of some lists
+abbrev pub IsCutOf : (borders : List ℕ) (cut : List (List (List (List ℕ)))) → Type 0
+IsCutOf borders cut = (lists : List (List ℕ)) × AreCut borders lists cut

@@ -1,15 +1,13 @@
 //! The borders between parts.
 
-ghost use Rattle.std.specs.Prelude.{◌≡◌, ◌≤◌, ◌<◌, ◌+◌, IfOk, length};
-ghost use Rattle.rh_layout.specs.declared.limits.TheConstants.{MAX_KEY};
+ghost use Rattle.std.specs.Prelude.{◌≤◌, ◌<◌, ◌+◌, length};
 ghost use Rattle.rh_borders.specs.Borders.{AreBorders};
-ghost use Rattle.rh_borders.specs.declared.borders.TheConstants.{MOST_PARTS};
+ghost use Rattle.rh_borders.specs.declared.limits.TheConstants.{MOST_PARTS};
 
+use crate::limits::MOST_PARTS;
 use rh_layout::MAX_KEY;
+use rh_lists::KeyList;
 use std::alloc::{AllocError, Global};
-
-/// The most parts.
-const MOST_PARTS: usize = 1_024;
 
 /// About how many keys a part shall have, repeats counted.
 const IN_A_PART: usize = 12_288;
@@ -20,11 +18,19 @@ const IN_A_PIECE: usize = 64;
 /// So many keys for each part are looked at.
 const SAMPLE: usize = 16;
 
+/// Borders between parts: one more than there are parts.
+#[derive(Drop)]
+pub struct Borders {
+    pub values: Vec<u64>,
+    ghost are: { AreBorders values.items },
+    ghost few: { length values.items ≤ MOST_PARTS + 1 },
+}
+
 /// How many keys the lists have, repeats counted.
-pub(crate) fn keys_in(lists: &[Vec<Vec<u64>>]) -> usize {
+pub(crate) fn keys_in(lists: &[KeyList]) -> usize {
     let mut sum = 0usize;
-    for pieces in lists {
-        for keys in pieces {
+    for list in lists {
+        for keys in list.pieces() {
             sum = sum.saturating_add(keys.len());
         }
     }
@@ -32,10 +38,10 @@ pub(crate) fn keys_in(lists: &[Vec<Vec<u64>>]) -> usize {
 }
 
 /// How many pieces the lists have.
-fn pieces_in(lists: &[Vec<Vec<u64>>]) -> usize {
+fn pieces_in(lists: &[KeyList]) -> usize {
     let mut sum = 0usize;
-    for pieces in lists {
-        sum = sum.saturating_add(pieces.len());
+    for list in lists {
+        sum = sum.saturating_add(list.pieces().len());
     }
     sum
 }
@@ -50,12 +56,12 @@ fn parts_for(keys: usize, pieces: usize) -> usize
 }
 
 /// Each key of the lists in so many steps.
-fn some_keys(alloc: Global, lists: &[Vec<Vec<u64>>], step: usize) -> Result<Vec<u64>, AllocError>
+fn some_keys(alloc: Global, lists: &[KeyList], step: usize) -> Result<Vec<u64>, AllocError>
     requires { 0 < step }
 {
     let mut sample = Vec::new(alloc);
-    for pieces in lists {
-        for keys in pieces {
+    for list in lists {
+        for keys in list.pieces() {
             for key in keys.iter().step_by(step) {
                 sample.push(*key)?;
             }
@@ -78,34 +84,29 @@ fn next_border(sample: &[u64], at: usize, last: u64, to: u64) -> u64
 }
 
 /// Borders at places of the sample, which rises.
-fn borders_at(alloc: Global, sample: &[u64], parts: usize) -> Result<Vec<u64>, AllocError>
+fn borders_at(alloc: Global, sample: &[u64], parts: usize) -> Result<Borders, AllocError>
     requires some { 0 < parts }
     requires few { parts ≤ MOST_PARTS }
-    ensures borders { IfOk result (λ v. AreBorders v.items) }
-    ensures few { IfOk result (λ v. length v.items ≤ MOST_PARTS + 1) }
 {
     let step = sample.len() / parts;
-    let mut borders = Vec::with_capacity(alloc, parts + 1)?;
-    borders.push(0)?;
+    let mut values = Vec::with_capacity(alloc, parts + 1)?;
+    values.push(0)?;
     let mut last = 0;
     for part in 1..parts {
         last = next_border(sample, step.saturating_mul(part), last, MAX_KEY + 1);
-        borders.push(last)?;
+        values.push(last)?;
     }
-    borders.push(MAX_KEY + 1)?;
-    Ok(borders)
+    values.push(MAX_KEY + 1)?;
+    Ok(Borders { values })
 }
 
 /// Borders for the keys of the lists, of which there are so many, by a sample of them: about as
 /// many keys stand between two as between two others. Nothing else depends on which they are.
-pub(crate) fn borders(
+pub(crate) fn borders_for(
     alloc: Global,
-    lists: &[Vec<Vec<u64>>],
+    lists: &[KeyList],
     keys: usize,
-) -> Result<Vec<u64>, AllocError>
-    ensures borders { IfOk result (λ v. AreBorders v.items) }
-    ensures few { IfOk result (λ v. length v.items ≤ MOST_PARTS + 1) }
-{
+) -> Result<Borders, AllocError> {
     let parts = parts_for(keys, pieces_in(lists));
     let mut sample = some_keys(alloc, lists, keys / (parts * SAMPLE) + 1)?;
     sample.sort_unstable();

@@ -3,26 +3,25 @@
 ghost use Rattle.std.specs.Prelude.{◌≡◌, ℕ, ◌+◌, ◌<◌, ◌≤◌, ◌==◌, All, IfOk, length, slice_index};
 ghost use Rattle.rh_layout.specs.Key.{IsKey};
 ghost use Rattle.rh_layout.specs.Range.{stands};
-ghost use Rattle.rh_borders.specs.Borders.{AreBorders, AreParts};
-ghost use Rattle.rh_borders.specs.declared.borders.TheConstants.{MOST_PARTS};
+ghost use Rattle.rh_borders.specs.Borders.{AreParts};
 
+use crate::borders::Borders;
 use crate::parts::Parts;
 use std::alloc::{AllocError, Global};
 
 /// The part in which a key stands.
-fn part_of(borders: &[u64], key: u64) -> usize
-    requires borders { AreBorders borders.now }
-    requires key { IsKey key }
-    ensures inside { result + 1 < length borders.now }
-    ensures part { (p : ℕ) → p + 1 < length borders.now →
-        stands (slice_index borders.now p) (slice_index borders.now (p + 1)) key
-        ≡ (result == p) }
+fn part_of(borders: &Borders, key: u64) -> usize
+    requires { IsKey key }
+    ensures inside { result + 1 < length borders.now.values.items }
+    ensures part { (p : ℕ) → p + 1 < length borders.now.values.items →
+        stands (slice_index borders.now.values.items p)
+        (slice_index borders.now.values.items (p + 1)) key ≡ (result == p) }
 {
     let mut low = 0;
-    let mut size = borders.len() - 1;
+    let mut size = borders.values.len() - 1;
     while size > 1 {
         let half = size / 2;
-        if borders[low + half] <= key {
+        if borders.values[low + half] <= key {
             low += half;
         }
         size -= half;
@@ -31,15 +30,14 @@ fn part_of(borders: &[u64], key: u64) -> usize
 }
 
 /// The part of each key.
-fn numbers_of(alloc: Global, borders: &[u64], keys: &[u64]) -> Result<Vec<u16>, AllocError>
-    requires borders { AreBorders borders.now }
-    requires few { length borders.now ≤ MOST_PARTS + 1 }
-    requires keys { All IsKey keys.now }
+fn numbers_of(alloc: Global, borders: &Borders, keys: &[u64]) -> Result<Vec<u16>, AllocError>
+    requires { All IsKey keys.now }
     ensures len { IfOk result (λ v. length v.items ≡ length keys.now) }
-    ensures inside { IfOk result (λ v. All (λ n. n + 1 < length borders.now) v.items) }
-    ensures part { IfOk result (λ v. (i p : ℕ) → i < length keys.now → p + 1 < length borders.now →
-        stands (slice_index borders.now p) (slice_index borders.now (p + 1))
-        (slice_index keys.now i)
+    ensures inside { IfOk result (λ v. All (λ n. n + 1 < length borders.now.values.items) v.items) }
+    ensures part { IfOk result (λ v. (i p : ℕ) → i < length keys.now →
+        p + 1 < length borders.now.values.items →
+        stands (slice_index borders.now.values.items p)
+        (slice_index borders.now.values.items (p + 1)) (slice_index keys.now i)
         ≡ (slice_index v.items i == p)) }
 {
     let mut numbers = Vec::with_capacity(alloc, keys.len())?;
@@ -63,14 +61,12 @@ fn counted(alloc: Global, numbers: &[u16], parts: usize) -> Result<Vec<usize>, A
 }
 
 /// The keys of a piece part by part, each part in the order of the piece.
-pub(crate) fn cut_piece(alloc: Global, borders: &[u64], keys: &[u64]) -> Result<Parts, AllocError>
-    requires borders { AreBorders borders.now }
-    requires few { length borders.now ≤ MOST_PARTS + 1 }
-    requires keys { All IsKey keys.now }
-    ensures { IfOk result (λ parts. AreParts borders.now keys.now parts) }
+pub(crate) fn cut_piece(alloc: Global, borders: &Borders, keys: &[u64]) -> Result<Parts, AllocError>
+    requires { All IsKey keys.now }
+    ensures { IfOk result (λ parts. AreParts borders.now.values.items keys.now parts) }
 {
     let numbers = numbers_of(alloc, borders, keys)?;
-    let counts = counted(alloc, &numbers, borders.len() - 1)?;
+    let counts = counted(alloc, &numbers, borders.values.len() - 1)?;
     let mut parts = Parts::with_room(alloc, &counts)?;
     for (i, number) in numbers.iter().enumerate() {
         parts.put(usize::from(*number), keys[i])?;

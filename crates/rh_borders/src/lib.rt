@@ -3,11 +3,11 @@
 //! `rh_combine_workers` stands on it.
 //!
 //! ```text
-//! let cut = cut_lists(rt, alloc, 4, lists)?;
+//! let cut = cut_lists(&team, lists)?;
 //! for part in 0..cut.parts() { .. }
 //! ```
 //!
-//! A list is given in pieces, as they are read. By a sample of all keys borders are chosen, between
+//! A list comes in pieces, as they were read. By a sample of all keys borders are chosen, between
 //! which about as many keys stand as between others: so one key far away gives no part all others.
 //! The pieces are cut there, side by side.
 //!
@@ -18,8 +18,12 @@
 
 mod borders;
 mod cut;
+mod limits;
 mod lists;
 mod parts;
+mod whole;
 
-pub use lists::{CutLists, cut_lists};
+pub use borders::Borders;
+pub use lists::cut_lists;
 pub use parts::Parts;
+pub use whole::CutLists;

@@ -3,6 +3,7 @@
 use rh_bytes::{Counted, Nobody};
 use rh_combine::How;
 use rh_faulty::{FaultyShelf, ShelfFailure};
+use rh_forks::{Team, Workers};
 use rh_key_files::KeyFault;
 use rh_list_commands::{Job, Output, combine_files};
 use rh_list_files::{CommandFault, FileFault, read_paths};
@@ -99,15 +100,19 @@ fn union<T: Threads + Sync>(
     names: &[&str],
 ) -> Result<(Vec<u8>, Result<(), CommandFault>), Fail> {
     let paths = paths(alloc, names)?;
+    let team = Team {
+        rt,
+        alloc,
+        workers: Workers { count: 1 },
+    };
     let job = Job {
         how: How::Union,
         output: Output::Lines,
-        workers: 1,
         paths: &paths,
     };
     let mut input = Counted::new(b"".as_slice());
     let mut writer = Counted::new(Vec::new(alloc));
-    let outcome = combine_files(rt, alloc, &job, shelf, &mut input, &mut writer, &mut Nobody);
+    let outcome = combine_files(&team, &job, shelf, &mut input, &mut writer, &mut Nobody);
     Ok((writer.into_inner(), outcome))
 }
 
@@ -127,15 +132,12 @@ fn the_first_list_with_a_fault_is_told(rt: HostRuntime) -> Result<(), Fail> {
         let mut shelf = shelf(rt.alloc(), failure)?;
         let paths = paths(rt.alloc(), &["few", name, "lost"])?;
         let mut input = Counted::new(b"".as_slice());
-        let lists = read_paths(
-            &rt,
-            rt.alloc(),
-            1,
-            &mut shelf,
-            &paths,
-            &mut input,
-            &mut Nobody,
-        );
+        let team = Team {
+            rt: &rt,
+            alloc: rt.alloc(),
+            workers: Workers { count: 1 },
+        };
+        let lists = read_paths(&team, &mut shelf, &paths, &mut input, &mut Nobody);
         let told = CommandFault::List { index: 1, fault };
         assert_eq!(rt; lists.err(), Some(told), "{name} {failure:?}");
         assert_eq!(rt; shelf.failed_reads(), failed_reads, "{name} {failure:?}");

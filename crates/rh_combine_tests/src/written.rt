@@ -6,6 +6,8 @@ ghost use Rattle.rh_layout.specs.Key.{IsKey};
 use rh_bytes::{Counted, Progress};
 use rh_combine_workers::*;
 use rh_faulty::{FaultyWriter, Refusal};
+use rh_forks::{Team, Workers};
+use rh_lists::KeyList;
 use std::alloc::{AllocError, Global};
 use std::test::*;
 
@@ -28,21 +30,18 @@ fn piece(alloc: Global, of: u64, first: u64) -> Result<Vec<u64>, AllocError>
 }
 
 // The multiples of a number, in pieces.
-fn list(alloc: Global, of: u64) -> Result<Vec<Vec<u64>>, AllocError>
+fn list(alloc: Global, of: u64) -> Result<KeyList, AllocError>
     requires { of ≤ 1000 }
-    ensures { IfOk result (λ v. All (λ k. All IsKey k.items) v.items) }
 {
     let mut pieces = Vec::new(alloc);
     for number in 0..PIECES {
         pieces.push(piece(alloc, of, number * IN_A_PIECE)?)?;
     }
-    Ok(pieces)
+    Ok(KeyList::of(pieces))
 }
 
 // The multiples of 2 and of 3, 100,000 of each.
-fn two_lists(alloc: Global) -> Result<Vec<Vec<Vec<u64>>>, AllocError>
-    ensures { IfOk result (λ v. All (λ l. All (λ k. All IsKey k.items) l.items) v.items) }
-{
+fn two_lists(alloc: Global) -> Result<Vec<KeyList>, AllocError> {
     let mut lists = Vec::new(alloc);
     for of in [2, 3] {
         lists.push(list(alloc, of)?)?;
@@ -76,9 +75,14 @@ const NONE_TOLD: Told = Told {
 
 #[test]
 fn by_one_worker_and_by_several(rt: HostRuntime) -> Result<(), Fail> {
-    for workers in [1, 2, 3, 4, 64] {
+    for workers in [1usize, 2, 3, 4, 64] {
         let lists = two_lists(rt.alloc())?;
-        let found = combine(&rt, rt.alloc(), workers, How::Intersect, lists)?;
+        let team = Team {
+            rt: &rt,
+            alloc: rt.alloc(),
+            workers: Workers { count: workers },
+        };
+        let found = combine(&team, How::Intersect, lists)?;
         assert_eq!(rt; found.len(), 33_334, "{workers} workers");
         for (i, number) in found.iter().enumerate() {
             assert_eq!(rt; *number, 6 * i as u64);
@@ -94,20 +98,20 @@ fn the_same_text_by_any_number_of_workers(rt: HostRuntime) -> Result<(), Fail> {
         (Form::Keys, 266_672),
         (Form::Count, 0),
     ] {
-        for workers in [1, 3, 4] {
+        let wanted = Wanted {
+            how: How::Intersect,
+            form,
+        };
+        for workers in [1usize, 3, 4] {
+            let team = Team {
+                rt: &rt,
+                alloc: rt.alloc(),
+                workers: Workers { count: workers },
+            };
             let mut writer = Counted::new(Vec::new(rt.alloc()));
             let mut told = NONE_TOLD;
             let lists = two_lists(rt.alloc())?;
-            let count = write_combined(
-                &rt,
-                rt.alloc(),
-                workers,
-                How::Intersect,
-                form,
-                lists,
-                &mut writer,
-                &mut told,
-            );
+            let count = write_combined(&team, wanted, lists, &mut writer, &mut told);
             assert_eq!(rt; count, Ok(33_334));
             assert_eq!(rt; writer.into_inner().len(), bytes, "{form:?}");
             assert!(rt; told.rounds > 0 && told.parts == told.of);
@@ -122,16 +126,16 @@ fn a_writer_that_fails(rt: HostRuntime) -> Result<(), Fail> {
         let mut writer = Counted::new(FaultyWriter::new(rt.alloc(), 1, refusal));
         let mut told = NONE_TOLD;
         let lists = two_lists(rt.alloc())?;
-        let count = write_combined(
-            &rt,
-            rt.alloc(),
-            2,
-            How::Union,
-            Form::Lines,
-            lists,
-            &mut writer,
-            &mut told,
-        );
+        let team = Team {
+            rt: &rt,
+            alloc: rt.alloc(),
+            workers: Workers { count: 2 },
+        };
+        let wanted = Wanted {
+            how: How::Union,
+            form: Form::Lines,
+        };
+        let count = write_combined(&team, wanted, lists, &mut writer, &mut told);
         assert_eq!(rt; count, Err(CombineFault::Write));
         assert_eq!(rt; writer.failures(), 1);
         assert_eq!(rt; told.rounds, 0);

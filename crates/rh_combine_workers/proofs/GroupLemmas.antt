@@ -8,13 +8,15 @@ use Rattle.std.proofs.lemmas.List.Concat.{flat_map-append}
 use Rattle.std.proofs.lemmas.List.Sums.{sum_by-cons}
 use Rattle.rh_layout.specs.Key.{IsKey}
 use Rattle.rh_layout.specs.declared.limits.TheConstants.{MAX_KEY}
+use Rattle.rh_lists.specs.Lists.{keys_of}
+use Rattle.rh_lists.specs.declared.list.KeyList.{KeyList}
 use Rattle.rh_combine.specs.declared.how.How.{How}
 use Rattle.rh_layout.specs.Range.{within}
 use Rattle.rh_combine.specs.Combine.{AllWithin, answer}
 use Rattle.rh_combine.proofs.RangeLaws.{of_all, of_two}
 use Rattle.rh_combine.proofs.RangeLemmas.{all_keys, within-none}
 use Rattle.rh_combine_workers.specs.declared.group.Group.{Group}
-use Rattle.rh_borders.specs.declared.lists.CutLists.{CutLists}
+use Rattle.rh_borders.specs.declared.whole.CutLists.{CutLists}
 use Rattle.rh_combine_workers.specs.declared.wanted.Wanted.{Wanted}
 use Rattle.rh_borders.specs.Borders.{AreBorders, between}
 use Rattle.rh_borders.specs.Cut.{AreLists}
@@ -84,52 +86,52 @@ edge-inside first i size parts = omega arith
 pub edge-rises : (first i size parts : ℕ) → edge first i size parts ≤ edge first (i + 1) size parts
 edge-rises first i size parts = omega (arith, add-mul i 1 size)
 
-module _ (cut : CutLists) (are : AreBorders cut.borders.items) (first size : ℕ) where
+module _ (cut : CutLists) (are : AreBorders cut.borders.values.items) (first size : ℕ) where
   abbrev border_at : ℕ → ℕ
-  border_at i = slice_index cut.borders.items (edge first i size (parts_of cut))
+  border_at i = slice_index cut.borders.values.items (edge first i size (parts_of cut))
 
   pub border-rises : (i : ℕ) → border_at i ≤ border_at (i + 1)
   border-rises i =
-      rise_to cut.borders.items are (edge first i size (parts_of cut)) (edge first (i + 1) size (parts_of cut)) (edge-rises first i size (parts_of cut)) (omega (arith, edge-inside first (i + 1) size (parts_of cut), are.some))
+      rise_to cut.borders.values.items are (edge first i size (parts_of cut)) (edge first (i + 1) size (parts_of cut)) (edge-rises first i size (parts_of cut)) (omega (arith, edge-inside first (i + 1) size (parts_of cut), are.some))
 
 -- ---- a round of groups
 
-module _ {E : Type 0} (wanted : Wanted) (cut : CutLists) (lists : List (List ℕ)) (are : AreLists cut lists) (first size n : ℕ) (inside : first < length cut.borders.items) (done : List Group) (told : List (Result Group E))
+module _ {E : Type 0} (wanted : Wanted) (cut : CutLists) (lists : List (List ℕ)) (are : AreLists cut lists) (first size n : ℕ) (inside : first < length cut.borders.values.items) (done : List Group) (told : List (Result Group E))
     (is : map Ok done ≡ told) (many : length told ≡ n) (each : (i : ℕ) (d : Result Group E) → i < n → TellsGroup wanted cut first size i (get_or told i d)) where
   so_many : length done ≡ n
   so_many = as_many done told is ∙ many
 
-  group_is : (i : ℕ) (d : Group) → i < length done → IsGroup wanted cut.borders.items (edge first i size (parts_of cut)) (edge first (i + 1) size (parts_of cut)) lists (get_or done i d)
+  group_is : (i : ℕ) (d : Group) → i < length done → IsGroup wanted cut.borders.values.items (edge first i size (parts_of cut)) (edge first (i + 1) size (parts_of cut)) lists (get_or done i d)
   group_is i d here =
-      told_one (IsGroup wanted cut.borders.items (edge first i size (parts_of cut)) (edge first (i + 1) size (parts_of cut)) lists) done told i d is here
+      told_one (IsGroup wanted cut.borders.values.items (edge first i size (parts_of cut)) (edge first (i + 1) size (parts_of cut)) lists) done told i d is here
       ((each i (Ok d) (omega (arith, here, so_many))).is lists are)
 
   begins : edge first 0 size (parts_of cut) ≡ first
   begins = edge-first first size (parts_of cut) (omega (arith, inside))
 
-  pub round_bytes : flat_map (λ g. g.bytes.items) done ≡ spelled wanted.form (between cut.borders.items first (edge first n size (parts_of cut)) (answer wanted.how lists))
+  pub round_bytes : flat_map (λ g. g.bytes.items) done ≡ spelled wanted.form (between cut.borders.values.items first (edge first n size (parts_of cut)) (answer wanted.how lists))
   round_bytes =
       all_told wanted.how lists (λ (g : Group). g.bytes.items) (spelled wanted.form) refl (flat_map-append (spelling_of wanted.form)) done (border_at cut are.borders first size) (λ i _. border-rises cut are.borders first size i) (λ i d here. (group_is i d here).bytes)
-      ∙ (λ j. spelled wanted.form (between cut.borders.items (begins j) (edge first (so_many j) size (parts_of cut)) (answer wanted.how lists)))
+      ∙ (λ j. spelled wanted.form (between cut.borders.values.items (begins j) (edge first (so_many j) size (parts_of cut)) (answer wanted.how lists)))
 
-  pub round_count : sum_by (λ g. g.count) done ≡ length (between cut.borders.items first (edge first n size (parts_of cut)) (answer wanted.how lists))
+  pub round_count : sum_by (λ g. g.count) done ≡ length (between cut.borders.values.items first (edge first n size (parts_of cut)) (answer wanted.how lists))
   round_count =
       all_counts wanted.how lists (λ (g : Group). g.count) done (border_at cut are.borders first size) (λ i _. border-rises cut are.borders first size i) (λ i d here. (group_is i d here).count)
-      ∙ (λ j. length (between cut.borders.items (begins j) (edge first (so_many j) size (parts_of cut)) (answer wanted.how lists)))
+      ∙ (λ j. length (between cut.borders.values.items (begins j) (edge first (so_many j) size (parts_of cut)) (answer wanted.how lists)))
 
 -- ---- the shares of all workers
 
 module _ {V E : Type 0} (items : V → List ℕ) (how : How) (cut : CutLists) (lists : List (List ℕ)) (are : AreLists cut lists) (size n : ℕ) (done : List V) (told : List (Result V E))
     (is : map Ok done ≡ told) (many : length told ≡ n) (each : (i : ℕ) (d : Result V E) → i < n → TellsShare items how cut size i (get_or told i d)) (enough : parts_of cut ≤ n * size) where
-  pub all_shares : flat_map items done ≡ between cut.borders.items 0 (parts_of cut) (answer how lists)
+  pub all_shares : flat_map items done ≡ between cut.borders.values.items 0 (parts_of cut) (answer how lists)
   all_shares =
       let so_many : length done ≡ n = as_many done told is ∙ many in
       let begins : edge 0 0 size (parts_of cut) ≡ 0 = edge-first 0 size (parts_of cut) (omega arith) in
       let ends : edge 0 n size (parts_of cut) ≡ parts_of cut = omega (arith, enough) in
       all_told how lists items (λ l. l) refl (λ _ _. refl) done (border_at cut are.borders 0 size) (λ i _. border-rises cut are.borders 0 size i)
-      (λ i d here. told_one (λ v. items v ≡ between cut.borders.items (edge 0 i size (parts_of cut)) (edge 0 (i + 1) size (parts_of cut)) (answer how lists)) done told i d is here ((each i (Ok d) (omega (arith, here, so_many))).is lists are))
-      ∙ ap (λ m. between cut.borders.items (edge 0 0 size (parts_of cut)) (edge 0 m size (parts_of cut)) (answer how lists)) so_many
-      ∙ (λ j. between cut.borders.items (begins j) (ends j) (answer how lists))
+      (λ i d here. told_one (λ v. items v ≡ between cut.borders.values.items (edge 0 i size (parts_of cut)) (edge 0 (i + 1) size (parts_of cut)) (answer how lists)) done told i d is here ((each i (Ok d) (omega (arith, here, so_many))).is lists are))
+      ∙ ap (λ m. between cut.borders.values.items (edge 0 0 size (parts_of cut)) (edge 0 m size (parts_of cut)) (answer how lists)) so_many
+      ∙ (λ j. between cut.borders.values.items (begins j) (ends j) (answer how lists))
 
 -- ---- all parts
 
@@ -138,15 +140,14 @@ all_parts borders are how lists all =
     let last = are.last (length borders - 1) (omega (arith, are.some)) in
     (λ j. within (are.first j) (last j) (answer how lists)) ∙ of_all 0 (MAX_KEY + 1) how lists all
 
-module _ {K : Type 0} (f : K → List ℕ) where
-  keys_of_pieces : (pieces : List K) → All (λ k. All IsKey (f k)) pieces → All IsKey (flat_map f pieces)
-  keys_of_pieces [] all = λ i d inside. absurd (omega (arith, inside))
-  keys_of_pieces (x ∷ pieces) all = both (f x) (flat_map f pieces) (all 0 x (omega arith)) (keys_of_pieces pieces (λ j e here. all (suc j) e (omega (arith, here))))
-    where
-      both : (xs ys : List ℕ) → All IsKey xs → All IsKey ys → All IsKey (xs ++ ys)
-      both [] ys first second i d inside = second i d inside
-      both (x ∷ xs) ys first second zero d inside = first 0 x (omega arith)
-      both (x ∷ xs) ys first second (suc i) d inside = both xs ys (λ j e here. first (suc j) e (omega (arith, here))) second i d (omega (arith, inside))
+keys_of_pieces : {K : Type 0} (f : K → List ℕ) (pieces : List K) → All (λ k. All IsKey (f k)) pieces → All IsKey (flat_map f pieces)
+keys_of_pieces f [] all = λ i d inside. absurd (omega (arith, inside))
+keys_of_pieces f (x ∷ pieces) all = both (f x) (flat_map f pieces) (all 0 x (omega arith)) (keys_of_pieces f pieces (λ j e here. all (suc j) e (omega (arith, here))))
+  where
+    both : (xs ys : List ℕ) → All IsKey xs → All IsKey ys → All IsKey (xs ++ ys)
+    both [] ys first second i d inside = second i d inside
+    both (x ∷ xs) ys first second zero d inside = first 0 x (omega arith)
+    both (x ∷ xs) ys first second (suc i) d inside = both xs ys (λ j e here. first (suc j) e (omega (arith, here))) second i d (omega (arith, inside))
 
-  pub keys_of_lists : {L : Type 0} (h : L → List K) (lists : List L) → All (λ l. All (λ k. All IsKey (f k)) (h l)) lists → AllWithin 0 (MAX_KEY + 1) (map (λ l. flat_map f (h l)) lists)
-  keys_of_lists h lists all = all_keys (λ l. flat_map f (h l)) lists (λ i d inside. keys_of_pieces (h (get_or lists i d)) (all i d inside))
+pub keys_of_lists : (lists : List KeyList) → AllWithin 0 (MAX_KEY + 1) (map keys_of lists)
+keys_of_lists lists = all_keys keys_of lists (λ i d inside. keys_of_pieces (λ piece. piece.items) (get_or lists i d).pieces.items (get_or lists i d).in_range)

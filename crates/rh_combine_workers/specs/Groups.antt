@@ -4,7 +4,7 @@ use Rattle.rh_combine.specs.Combine.{answer}
 use Rattle.rh_combine.specs.declared.how.How.{How}
 use Rattle.rh_combine_workers.specs.declared.group.Group.{Group}
 use Rattle.rh_combine_workers.specs.declared.wanted.Wanted.{Wanted}
-use Rattle.rh_borders.specs.declared.lists.CutLists.{CutLists}
+use Rattle.rh_borders.specs.declared.whole.CutLists.{CutLists}
 use Rattle.rh_borders.specs.Borders.{between}
 use Rattle.rh_borders.specs.Cut.{AreLists}
 use Rattle.rh_combine_workers.specs.Spelled.{spelled}
@@ -20,12 +20,12 @@ pub record IsGroup (wanted : Wanted) (borders : List ℕ) (p q : ℕ) (lists : L
 
 -- how many parts there are
 abbrev pub parts_of : CutLists → ℕ
-parts_of cut = length cut.borders.items - 1
+parts_of cut = length cut.borders.values.items - 1
 
 -- what a worker tells of a group: of whatever lists were cut, unless memory ran out
 pub record TellsGroup {E : Type 0} (wanted : Wanted) (cut : CutLists) (first size number : ℕ) (told : Result Group E) : Type 0 where
-  pub is : (lists : List (List ℕ)) → AreLists cut lists → IfOk told (IsGroup wanted cut.borders.items (edge first number size (parts_of cut)) (edge first (number + 1) size (parts_of cut)) lists)
+  pub is : (lists : List (List ℕ)) → AreLists cut lists → IfOk told (IsGroup wanted cut.borders.values.items (edge first number size (parts_of cut)) (edge first (number + 1) size (parts_of cut)) lists)
 
 -- what a worker tells of its share, as a list
 pub record TellsShare {V E : Type 0} (items : V → List ℕ) (how : How) (cut : CutLists) (size number : ℕ) (told : Result V E) : Type 0 where
-  pub is : (lists : List (List ℕ)) → AreLists cut lists → IfOk told (λ v. items v ≡ between cut.borders.items (edge 0 number size (parts_of cut)) (edge 0 (number + 1) size (parts_of cut)) (answer how lists))
+  pub is : (lists : List (List ℕ)) → AreLists cut lists → IfOk told (λ v. items v ≡ between cut.borders.values.items (edge 0 number size (parts_of cut)) (edge 0 (number + 1) size (parts_of cut)) (answer how lists))

@@ -1,14 +1,13 @@
 //! Groups of consecutive parts, worked out side by side.
 
 ghost use Rattle.std.specs.Prelude.{◌≡◌, ℕ, List, ◌+◌, ◌-◌, ◌^◌, ◌<◌, ◌≤◌, IfOk, Ok, length, map, min, slice_index_or, sum_by};
-ghost use Rattle.rh_borders.specs.Cut.{IsOfLists};
 ghost use Rattle.rh_combine_workers.specs.Groups.{TellsGroup, edge};
 
 use crate::form::spell;
 use crate::part::of_parts;
 use crate::wanted::Wanted;
 use rh_borders::CutLists;
-use rh_forks::map_indices;
+use rh_forks::{Team, map_indices};
 use std::alloc::{AllocError, Global};
 use std::thread::Threads;
 
@@ -35,8 +34,7 @@ fn group_at(
     size: usize,
     number: usize,
 ) -> Result<Group, AllocError>
-    requires lists { IsOfLists cut.now }
-    requires number { number + 1 < 2 ^ 64 }
+    requires { number + 1 < 2 ^ 64 }
     ensures { TellsGroup wanted cut.now first size number result }
 {
     let parts = cut.parts();
@@ -53,23 +51,22 @@ fn group_at(
 /// What the workers make of as many groups of so many parts, from the first part on. Where no
 /// thread can be started the caller does its work.
 pub(crate) fn groups<T: Threads + Sync>(
-    rt: &T,
-    alloc: Global,
-    workers: usize,
+    team: &Team<'_, T>,
     wanted: Wanted,
     cut: &CutLists,
     first: usize,
     size: usize,
 ) -> Result<Vec<Result<Group, AllocError>>, AllocError>
-    requires lists { IsOfLists cut.now }
-    ensures len { IfOk result (λ v. length v.items ≡ workers) }
-    ensures each { IfOk result (λ v. (i : ℕ) (d : _) → i < workers →
+    ensures len { IfOk result (λ v. length v.items ≡ team.now.workers.count) }
+    ensures each { IfOk result (λ v. (i : ℕ) (d : _) → i < team.now.workers.count →
         TellsGroup wanted cut.now first size i (slice_index_or v.items i d)) }
 {
+    let alloc = team.alloc;
+    let count = team.workers.count;
     map_indices(
-        rt,
+        team.rt,
         alloc,
-        workers,
+        count,
         &|i| group_at(alloc, wanted, cut, first, size, i),
     )
 }

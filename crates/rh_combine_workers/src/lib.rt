@@ -4,11 +4,11 @@
 //! `rh_list_commands` stands on it.
 //!
 //! ```text
-//! combine(rt, alloc, 4, How::Intersect, lists)?
-//! write_combined(rt, alloc, 4, How::Union, Form::Lines, lists, &mut writer, &mut progress)?
+//! combine(&team, How::Intersect, lists)?
+//! write_combined(&team, wanted, lists, &mut writer, &mut progress)?
 //! ```
 //!
-//! A list is given in pieces, as they are read. The lists are cut into parts at borders
+//! A list comes in pieces, as they were read. The lists are cut into parts at borders
 //! (`rh_borders`), so that each part is worked out by itself, by `rh_combine`. Groups of
 //! consecutive parts are worked out side by side, and written in their order.
 //!
@@ -36,4 +36,5 @@ pub use form::Form;
 pub use laws::workers_agree;
 pub use numbers::combine;
 pub use rh_combine::How;
+pub use wanted::Wanted;
 pub use writing::write_combined;

@@ -1,17 +1,17 @@
 //! What comes of lists, as a list.
 
-ghost use Rattle.std.specs.Prelude.{◌≡◌, ℕ, List, ◌+◌, ◌-◌, ◌^◌, ◌<◌, ◌≤◌, All, IfOk, Ok, length, map, slice_index_or};
+ghost use Rattle.std.specs.Prelude.{◌≡◌, ℕ, ◌+◌, ◌^◌, ◌<◌, IfOk, Ok, length, map, slice_index_or};
 ghost use Rattle.std.specs.List.{flat_map};
-ghost use Rattle.rh_layout.specs.Key.{IsKey};
+ghost use Rattle.rh_lists.specs.Lists.{keys_of};
 ghost use Rattle.rh_combine.specs.Combine.{answer};
-ghost use Rattle.rh_borders.specs.Cut.{IsOfLists};
-ghost use Rattle.rh_combine_workers.specs.Groups.{TellsShare, edge};
+ghost use Rattle.rh_combine_workers.specs.Groups.{TellsShare};
 
 use crate::group::edge;
 use crate::part::of_parts;
 use rh_borders::{CutLists, cut_lists};
 use rh_combine::How;
-use rh_forks::map_indices;
+use rh_forks::{Team, map_indices};
+use rh_lists::KeyList;
 use std::alloc::{AllocError, Global};
 use std::thread::Threads;
 
@@ -23,8 +23,7 @@ fn share_at(
     size: usize,
     number: usize,
 ) -> Result<Vec<u64>, AllocError>
-    requires lists { IsOfLists cut.now }
-    requires number { number + 1 < 2 ^ 64 }
+    requires { number + 1 < 2 ^ 64 }
     ensures { TellsShare (λ v. v.items) how cut.now size number result }
 {
     let parts = cut.parts();
@@ -36,19 +35,23 @@ fn share_at(
 /// What each worker makes of as many parts as the others. Where no thread can be started the caller
 /// does its work.
 fn shares<T: Threads + Sync>(
-    rt: &T,
-    alloc: Global,
-    workers: usize,
+    team: &Team<'_, T>,
     how: How,
     cut: &CutLists,
     size: usize,
 ) -> Result<Vec<Result<Vec<u64>, AllocError>>, AllocError>
-    requires lists { IsOfLists cut.now }
-    ensures len { IfOk result (λ v. length v.items ≡ workers) }
-    ensures each { IfOk result (λ v. (i : ℕ) (d : _) → i < workers →
+    ensures len { IfOk result (λ v. length v.items ≡ team.now.workers.count) }
+    ensures each { IfOk result (λ v. (i : ℕ) (d : _) → i < team.now.workers.count →
         TellsShare (λ w. w.items) how cut.now size i (slice_index_or v.items i d)) }
 {
-    map_indices(rt, alloc, workers, &|i| share_at(alloc, how, cut, size, i))
+    let alloc = team.alloc;
+    let count = team.workers.count;
+    map_indices(
+        team.rt,
+        alloc,
+        count,
+        &|i| share_at(alloc, how, cut, size, i),
+    )
 }
 
 /// All shares, where memory sufficed for each.
@@ -77,25 +80,20 @@ fn joined(alloc: Global, shares: &[Vec<u64>]) -> Result<Vec<u64>, AllocError>
     Ok(all)
 }
 
-/// The numbers that come of the lists, each once, in rising order. Each list is given in pieces,
-/// whose keys are the list's, one piece after the other, in any order. The answer depends neither
-/// on the number of workers nor on the pieces. `AllocError` comes only for want of memory; where no
-/// thread can be started the caller does its work.
+/// The numbers that come of the lists, each once, in rising order. The keys of a list may stand in
+/// any order. The answer depends neither on the number of workers nor on the pieces of a list.
+/// `AllocError` comes only for want of memory; where no thread can be started the caller does its
+/// work.
 pub fn combine<T: Threads + Sync>(
-    rt: &T,
-    alloc: Global,
-    workers: usize,
+    team: &Team<'_, T>,
     how: How,
-    lists: Vec<Vec<Vec<u64>>>,
+    lists: Vec<KeyList>,
 ) -> Result<Vec<u64>, AllocError>
-    requires workers { (0 < workers) × (workers ≤ 64) }
-    requires keys { All (λ l. All (λ k. All IsKey k.items) l.items) lists.items }
-    ensures { IfOk result (λ v. v.items
-        ≡ answer how (map (λ l. flat_map (λ k. k.items) l.items) lists.items)) }
+    ensures { IfOk result (λ v. v.items ≡ answer how (map keys_of lists.items)) }
 {
-    let cut = cut_lists(rt, alloc, workers, lists)?;
-    let size = cut.parts().div_ceil(workers);
-    let told = shares(rt, alloc, workers, how, &cut, size)?;
-    let shares = all_done(alloc, told)?;
-    joined(alloc, &shares)
+    let cut = cut_lists(team, lists)?;
+    let size = cut.parts().div_ceil(team.workers.count);
+    let told = shares(team, how, &cut, size)?;
+    let shares = all_done(team.alloc, told)?;
+    joined(team.alloc, &shares)
 }

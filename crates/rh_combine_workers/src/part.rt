@@ -3,7 +3,7 @@
 ghost use Rattle.std.specs.Prelude.{◌≡◌, ℕ, List, ◌+◌, ◌<◌, ◌≤◌, All, IfOk, length, map};
 ghost use Rattle.rh_combine.specs.Combine.{answer};
 ghost use Rattle.rh_borders.specs.Borders.{between, part_of};
-ghost use Rattle.rh_borders.specs.Cut.{AreLists, IsOfLists};
+ghost use Rattle.rh_borders.specs.Cut.{AreLists};
 
 use rh_borders::{CutLists, Parts};
 use rh_combine::{How, combined};
@@ -62,11 +62,10 @@ fn slices_of(alloc: Global, lists: &[Vec<u64>]) -> Result<Vec<&[u64]>, AllocErro
 
 /// What comes of the keys of a part.
 fn of_part(alloc: Global, how: How, cut: &CutLists, part: usize) -> Result<Vec<u64>, AllocError>
-    requires lists { IsOfLists cut.now }
-    requires part { part + 1 < length cut.now.borders.items }
+    requires { part + 1 < length cut.now.borders.values.items }
     ensures { (lists : List (List ℕ)) → AreLists cut.now lists →
         IfOk result (λ v. v.items
-        ≡ between cut.now.borders.items part (part + 1) (answer how lists)) }
+        ≡ between cut.now.borders.values.items part (part + 1) (answer how lists)) }
 {
     let mine = all_gathered(alloc, &cut.lists, part)?;
     let slices = slices_of(alloc, &mine)?;
@@ -82,11 +81,11 @@ pub(crate) fn of_parts(
     from: usize,
     to: usize,
 ) -> Result<Vec<u64>, AllocError>
-    requires lists { IsOfLists cut.now }
     requires order { from ≤ to }
-    requires inside { to < length cut.now.borders.items }
+    requires inside { to < length cut.now.borders.values.items }
     ensures { (lists : List (List ℕ)) → AreLists cut.now lists →
-        IfOk result (λ v. v.items ≡ between cut.now.borders.items from to (answer how lists)) }
+        IfOk result (λ v. v.items
+        ≡ between cut.now.borders.values.items from to (answer how lists)) }
 {
     let mut found = Vec::new(alloc);
     for part in from..to {

@@ -4,8 +4,8 @@ use crate::form::Form;
 use rh_combine::How;
 
 /// What is made of lists, and how it is written.
-#[derive(Clone, Copy)]
-pub(crate) struct Wanted {
-    pub(crate) how: How,
-    pub(crate) form: Form,
+#[derive(Clone, Copy, Debug, PartialEq, Eq)]
+pub struct Wanted {
+    pub how: How,
+    pub form: Form,
 }

@@ -4,6 +4,7 @@ use crate::files::THREE_KEYS;
 use crate::numbers::{ACCEPTED, NOT_A_KEY, OUT_OF_RANGE, sevens};
 use rh_bytes::{Counted, Nobody, Progress};
 use rh_faulty::FaultyReader;
+use rh_forks::{Team, Workers};
 use rh_key_files::KeyFault;
 use rh_lists::*;
 use rh_numbers::TextFault;
@@ -19,13 +20,16 @@ fn list_of<T: Threads + Sync>(
     block_bytes: usize,
     bytes: &[u8],
 ) -> Result<Vec<u64>, ListFault>
-    requires workers { (0 < workers) × (workers ≤ 64) }
+    requires workers { 0 < workers }
     requires block { (0 < block_bytes) × (block_bytes ≤ 16777216) }
 {
-    let list = read_list_in_blocks(
+    let team = Team {
         rt,
         alloc,
-        workers,
+        workers: Workers { count: workers },
+    };
+    let list = read_list_in_blocks(
+        &team,
         block_bytes,
         &mut Counted::new(bytes),
         &mut Nobody,
@@ -140,7 +144,12 @@ fn a_text_has_more_than_a_million_keys(rt: HostRuntime) -> Result<(), Fail> {
     let text = sevens(rt.alloc(), 1_000_000, b"9")?;
     let mut told = Told { bytes: 0 };
     let mut reader = Counted::new(text.as_slice());
-    let list = read_list_in_blocks(&rt, rt.alloc(), 4, 100_000, &mut reader, &mut told)?;
+    let team = Team {
+        rt: &rt,
+        alloc: rt.alloc(),
+        workers: Workers { count: 4 },
+    };
+    let list = read_list_in_blocks(&team, 100_000, &mut reader, &mut told)?;
     let (mut count, mut last) = (0usize, 0);
     for piece in list.pieces() {
         for key in piece {
@@ -171,16 +180,14 @@ fn a_key_file_has_more_than_a_million_keys(rt: HostRuntime) -> Result<(), Fail> 
 fn each_read_of_a_list_fails(rt: HostRuntime) -> Result<(), Fail> {
     let text = b"17\n1\n9\n17\nx\n";
     for workers in 1..3usize {
+        let team = Team {
+            rt: &rt,
+            alloc: rt.alloc(),
+            workers: Workers { count: workers },
+        };
         for n in 1..20u64 {
             let mut reader = Counted::new(FaultyReader::new(text.as_slice(), n));
-            let outcome = read_list_in_blocks(
-                &rt,
-                rt.alloc(),
-                workers,
-                3,
-                &mut reader,
-                &mut Nobody,
-            );
+            let outcome = read_list_in_blocks(&team, 3, &mut reader, &mut Nobody);
             let fault = if n < 5 {
                 TextFault::Read
             } else {

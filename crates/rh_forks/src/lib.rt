@@ -1,6 +1,7 @@
 //! Work that is shared out to threads, while the thread that starts them waits.
 //!
-//! `rh_lists`, `rh_borders` and `rh_combine_workers` share their work so.
+//! `rh_lists`, `rh_borders` and `rh_combine_workers` share their work so, each to a `Team`: so many
+//! workers, what starts their threads, and where what they make is held.
 //!
 //! The calls of std have the same contracts, and there the caller works too. But Linux puts some
 //! new threads on the processor of the thread that starts them. Where that goes on working, both
@@ -13,6 +14,8 @@
 
 mod mapping;
 mod pair;
+mod team;
 
 pub use mapping::map_indices;
 pub use pair::both;
+pub use team::{Team, Workers};

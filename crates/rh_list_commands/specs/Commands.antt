@@ -1,15 +1,18 @@
 -- What a command on lists writes.
-use Rattle.std.specs.Prelude.{◌≡◌, ◌⊎◌, ℕ, List, length, take, slice_get, Option, Some, Result, Ok, Err}
+use Rattle.std.specs.Prelude.{◌≡◌, ◌⊎◌, ℕ, List, length, take, slice_get, Option, Some, Result, Ok, Err, IfErr, OnOk}
 use Rattle.std.specs.Io.KnownBytes.{Appends}
-use Rattle.rh_bytes.specs.Counting.{AppendsFront}
+use Rattle.rh_bytes.specs.Counting.{AppendsFront, CountsFault, Rose, Writes, failures_of, inner_of}
+use Rattle.rh_bytes.specs.declared.counted.Counted.{Counted}
 use Rattle.rh_combine.specs.Combine.{answer}
 use Rattle.rh_combine.specs.declared.how.How.{How}
+use Rattle.rh_combine_workers.specs.declared.fault.CombineFault.{CombineFault}
+use Rattle.rh_combine_workers.specs.declared.fault.CombineFault.TheVariants as combines
 use Rattle.rh_key_files.specs.KeyFile.{spelling}
 use Rattle.rh_key_files.specs.declared.version.Version.TheVariants.{Second}
 use Rattle.rh_numbers.specs.Writing.{number_line, text_of}
-use Rattle.rh_shelf.specs.Shelf.{Files}
+use Rattle.rh_shelf.specs.Shelf.{Files, ShelfState}
 use Rattle.rh_list_files.specs.Lists.{GiveEach, HasFault}
-use Rattle.rh_list_files.specs.Reading.{ReadsSome}
+use Rattle.rh_list_files.specs.Reading.{Blames, ReadsSome}
 use Rattle.rh_list_files.specs.declared.fault.CommandFault.{CommandFault}
 use Rattle.rh_list_files.specs.declared.fault.CommandFault.TheVariants as faults
 use Rattle.rh_list_commands.specs.declared.output.Output.{Output}
@@ -43,3 +46,19 @@ Ends how output files paths input left old new (Err faults.Memory) = Stops how o
 -- the answer where all went well
 abbrev pub ended : Result (Unit {0}) CommandFault
 ended = Ok tt
+
+-- This writer wrote the text, or, on a fault, a front of it; a failure is counted where a write failed, and else none.
+pub record WritesText {X W : Type 0} (contents : W → Option (List ℕ)) (text : List ℕ) (old new : Counted W) (r : Result X CombineFault) : Type 0 where
+  pub written : Writes (contents (inner_of old)) (contents (inner_of new)) text r
+  pub counts : CountsFault combines.Write old new r
+
+-- How a command ends that reads lists of a shelf and of the reader of the input, and writes: with a fault that a file or a device is to
+-- blame for, or with nothing counted as failed. No file changes.
+pub record EndsCommand {X I W : Type 0} (how : How) (output : Output) (paths : List (List ℕ)) (shelf shelf_then : ShelfState) (remaining : I → Option (List ℕ)) (input input_then : Counted I) (contents : W → Option (List ℕ)) (writer writer_then : Counted W)
+    (r : Result X CommandFault) : Type 0 where
+  pub ends : Ends how output shelf.files paths (remaining (inner_of input)) (remaining (inner_of input_then)) (contents (inner_of writer)) (contents (inner_of writer_then)) r
+  pub same_files : shelf_then.files ≡ shelf.files
+  pub blamed : IfErr r (Blames shelf shelf_then paths (Rose (failures_of input) (failures_of input_then)) (Rose (failures_of writer) (failures_of writer_then)))
+  pub fine : OnOk r (shelf_then ≡ shelf)
+  pub input_fine : OnOk r (failures_of input_then ≡ failures_of input)
+  pub writer_fine : OnOk r (failures_of writer_then ≡ failures_of writer)

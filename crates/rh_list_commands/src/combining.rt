@@ -1,26 +1,25 @@
 //! The commands that make one list of several.
 
-ghost use Rattle.std.specs.Prelude.{◌≡◌, ◌++◌, ◌<◌, ◌≤◌, All, IfErr, IsErrOf, OnOk, length, map, string_bytes};
-ghost use Rattle.std.specs.List.{flat_map};
-ghost use Rattle.rh_bytes.specs.Counting.{CountsFault, Emits, Rose, Writes, failures_of, inner_of};
+ghost use Rattle.std.specs.Prelude.{◌++◌, IfErr, length, map, string_bytes};
+ghost use Rattle.rh_bytes.specs.Counting.{Emits};
 ghost use Rattle.rh_combine.specs.Combine.{answer};
 ghost use Rattle.rh_key_files.specs.KeyFile.{header, spelling};
 ghost use Rattle.rh_key_files.specs.declared.version.Version.TheVariants.{Second};
-ghost use Rattle.rh_layout.specs.Key.{IsKey};
-ghost use Rattle.rh_numbers.specs.Writing.{number_line};
-ghost use Rattle.rh_combine_workers.specs.declared.fault.CombineFault.TheVariants.{Write};
-ghost use Rattle.rh_list_commands.specs.Commands.{Ends, written};
-ghost use Rattle.rh_list_files.specs.Reading.{Blames, IsInside};
+ghost use Rattle.rh_lists.specs.Lists.{keys_of};
+ghost use Rattle.rh_numbers.specs.Writing.{number_line, text_of};
+ghost use Rattle.rh_list_commands.specs.Commands.{EndsCommand, WritesText, written};
+ghost use Rattle.rh_list_files.specs.Reading.{IsInside};
 
 use crate::output::Output;
 use rh_bytes::{Counted, Progress, WriteFault, write_text};
 use rh_combine::How;
-use rh_combine_workers::{CombineFault, Form, write_combined};
+use rh_combine_workers::{CombineFault, Form, Wanted, write_combined};
+use rh_forks::Team;
 use rh_key_files::write_header;
 use rh_list_files::{CommandFault, read_paths};
+use rh_lists::KeyList;
 use rh_numbers::write_numbers;
 use rh_shelf::Lender;
-use std::alloc::Global;
 use std::io::{Read, Write};
 use std::thread::Threads;
 
@@ -29,109 +28,92 @@ use std::thread::Threads;
 pub struct Job<'a> {
     pub how: How,
     pub output: Output,
-    /// From 1 to 64. What is written does not depend on it.
-    pub workers: usize,
     /// Where the lists are. `-` is standard input, which is read once: what another `-` finds is
     /// nothing.
     pub paths: &'a [String],
 }
 
 /// Reads the lists at these paths, and writes what comes of them. Nothing is written before all are
-/// read. Each write is a large one, so that no buffer is wanted.
+/// read. Each write is a large one, so that no buffer is wanted. What is written does not depend on
+/// how many workers the team has.
 pub fn combine_files<T: Threads + Sync, S: Lender, I: Read, W: Write, P: Progress>(
-    rt: &T,
-    alloc: Global,
+    team: &Team<'_, T>,
     job: &Job<'_>,
     shelf: &mut S,
     input: &mut Counted<I>,
     writer: &mut Counted<W>,
     progress: &mut P,
 ) -> Result<(), CommandFault>
-    requires { (0 < job.now.workers) × (job.now.workers ≤ 64) }
-    ensures ends { Ends job.now.how job.now.output (S.state shelf.old).files
-        (map string_bytes job.now.paths.now)
-        (I.remaining (inner_of input.old)) (I.remaining (inner_of input.new))
-        (W.contents (inner_of writer.old)) (W.contents (inner_of writer.new)) result }
+    ensures command { EndsCommand job.now.how job.now.output (map string_bytes job.now.paths.now)
+        (S.state shelf.old) (S.state shelf.new) I.remaining input.old input.new
+        W.contents writer.old writer.new result }
     ensures inside { IfErr result (IsInside (length job.now.paths.now)) }
-    ensures same_files { (S.state shelf.new).files ≡ (S.state shelf.old).files }
-    ensures blamed { IfErr result (Blames (S.state shelf.old) (S.state shelf.new)
-        (map string_bytes job.now.paths.now) (Rose (failures_of input.old) (failures_of input.new))
-        (Rose (failures_of writer.old) (failures_of writer.new))) }
-    ensures fine { OnOk result ((S.state shelf.new ≡ S.state shelf.old)
-        × (failures_of input.new ≡ failures_of input.old)
-        × (failures_of writer.new ≡ failures_of writer.old)) }
 {
-    let lists = read_paths(rt, alloc, job.workers, shelf, job.paths, input, progress)?;
-    match write_lists(rt, alloc, job, lists, writer, progress) {
+    let lists = read_paths(team, shelf, job.paths, input, progress)?;
+    match write_lists(team, job, lists, writer, progress) {
         Ok(()) => Ok(()),
         Err(CombineFault::Memory) => Err(CommandFault::Memory),
         Err(CombineFault::Write) => Err(CommandFault::Write),
     }
 }
 
-/// Writes what comes of the lists, which are given in pieces.
+/// Writes what comes of the lists.
 fn write_lists<T: Threads + Sync, W: Write, P: Progress>(
-    rt: &T,
-    alloc: Global,
+    team: &Team<'_, T>,
     job: &Job<'_>,
-    lists: Vec<Vec<Vec<u64>>>,
+    lists: Vec<KeyList>,
     writer: &mut Counted<W>,
     progress: &mut P,
 ) -> Result<(), CombineFault>
-    requires workers { (0 < job.now.workers) × (job.now.workers ≤ 64) }
-    requires keys { All (λ l. All (λ k. All IsKey k.items) l.items) lists.items }
-    ensures written { Writes (W.contents (inner_of writer.old)) (W.contents (inner_of writer.new))
-        (written job.now.output
-        (answer job.now.how (map (λ l. flat_map (λ k. k.items) l.items) lists.items))) result }
-    ensures counts { CountsFault Write writer.old writer.new result }
+    ensures { WritesText W.contents
+        (written job.now.output (answer job.now.how (map keys_of lists.items)))
+        writer.old writer.new result }
 {
-    let Job { how, workers, .. } = *job;
-    match job.output {
-        Output::Lines => match write_combined(
-            rt,
-            alloc,
-            workers,
-            how,
-            Form::Lines,
-            lists,
-            writer,
-            progress,
-        ) {
-            Ok(_) => Ok(()),
-            Err(fault) => Err(fault),
-        },
-        Output::Count => write_counted(rt, alloc, workers, how, lists, writer, progress),
-        Output::Packed => write_packed(rt, alloc, workers, how, lists, writer, progress),
+    let Job { how, output, .. } = *job;
+    match output {
+        Output::Lines => write_lines(team, how, lists, writer, progress),
+        Output::Count => write_counted(team, how, lists, writer, progress),
+        Output::Packed => write_packed(team, how, lists, writer, progress),
+    }
+}
+
+/// Writes the numbers that come of the lists.
+fn write_lines<T: Threads + Sync, W: Write, P: Progress>(
+    team: &Team<'_, T>,
+    how: How,
+    lists: Vec<KeyList>,
+    writer: &mut Counted<W>,
+    progress: &mut P,
+) -> Result<(), CombineFault>
+    ensures { WritesText W.contents (text_of (answer how (map keys_of lists.items)))
+        writer.old writer.new result }
+{
+    let wanted = Wanted {
+        how,
+        form: Form::Lines,
+    };
+    match write_combined(team, wanted, lists, writer, progress) {
+        Ok(_) => Ok(()),
+        Err(fault) => Err(fault),
     }
 }
 
 /// Writes how many numbers come of the lists.
 fn write_counted<T: Threads + Sync, W: Write, P: Progress>(
-    rt: &T,
-    alloc: Global,
-    workers: usize,
+    team: &Team<'_, T>,
     how: How,
-    lists: Vec<Vec<Vec<u64>>>,
+    lists: Vec<KeyList>,
     writer: &mut Counted<W>,
     progress: &mut P,
 ) -> Result<(), CombineFault>
-    requires workers { (0 < workers) × (workers ≤ 64) }
-    requires keys { All (λ l. All (λ k. All IsKey k.items) l.items) lists.items }
-    ensures written { Writes (W.contents (inner_of writer.old)) (W.contents (inner_of writer.new))
-        (number_line (length (answer how (map (λ l. flat_map (λ k. k.items) l.items) lists.items))))
-        result }
-    ensures counts { CountsFault Write writer.old writer.new result }
+    ensures { WritesText W.contents (number_line (length (answer how (map keys_of lists.items))))
+        writer.old writer.new result }
 {
-    let count = write_combined(
-        rt,
-        alloc,
-        workers,
+    let wanted = Wanted {
         how,
-        Form::Count,
-        lists,
-        writer,
-        progress,
-    )?;
+        form: Form::Count,
+    };
+    let count = write_combined(team, wanted, lists, writer, progress)?;
     write_numbers(&[count], writer)?;
     Ok(())
 }
@@ -139,32 +121,21 @@ fn write_counted<T: Threads + Sync, W: Write, P: Progress>(
 /// Writes a key file of the numbers. They are held until all are there, as it begins with their
 /// number.
 fn write_packed<T: Threads + Sync, W: Write, P: Progress>(
-    rt: &T,
-    alloc: Global,
-    workers: usize,
+    team: &Team<'_, T>,
     how: How,
-    lists: Vec<Vec<Vec<u64>>>,
+    lists: Vec<KeyList>,
     writer: &mut Counted<W>,
     progress: &mut P,
 ) -> Result<(), CombineFault>
-    requires workers { (0 < workers) × (workers ≤ 64) }
-    requires keys { All (λ l. All (λ k. All IsKey k.items) l.items) lists.items }
-    ensures written { Writes (W.contents (inner_of writer.old)) (W.contents (inner_of writer.new))
-        (spelling Second (answer how (map (λ l. flat_map (λ k. k.items) l.items) lists.items)))
-        result }
-    ensures counts { CountsFault Write writer.old writer.new result }
+    ensures { WritesText W.contents (spelling Second (answer how (map keys_of lists.items)))
+        writer.old writer.new result }
 {
-    let mut held = Counted::new(Vec::new(alloc));
-    let Ok(count) = write_combined(
-        rt,
-        alloc,
-        workers,
+    let wanted = Wanted {
         how,
-        Form::Keys,
-        lists,
-        &mut held,
-        progress,
-    ) else {
+        form: Form::Keys,
+    };
+    let mut held = Counted::new(Vec::new(team.alloc));
+    let Ok(count) = write_combined(team, wanted, lists, &mut held, progress) else {
         // Only memory can be wanting where a vector is written to.
         return Err(CombineFault::Memory);
     };

@@ -1,8 +1,9 @@
 -- The lists that a command reads: what their bytes say, and the first fault in them.
-use Rattle.std.specs.Prelude.{◌≡◌, ◌⊎◌, ℕ, Bool, true, false, List, [], ◌∷◌, codes, Option, Some, None, Result, Ok, Err}
+use Rattle.std.specs.Prelude.{◌≡◌, ◌⊎◌, ℕ, Bool, true, false, List, [], ◌∷◌, codes, Option, Some, None, Result, Ok, Err, IfErr, MatchResult, OnOk}
 use Rattle.std.specs.Str.{bytes_eq}
-use Rattle.rh_bytes.specs.Counting.{Rose}
+use Rattle.rh_bytes.specs.Counting.{Rose, failures_of, inner_of}
 use Rattle.rh_bytes.specs.Input.{Unless}
+use Rattle.rh_bytes.specs.declared.counted.Counted.{Counted}
 use Rattle.rh_key_files.specs.declared.fault.KeyFault.TheVariants as keys
 use Rattle.rh_numbers.specs.declared.fault.TextFault.TheVariants as texts
 use Rattle.rh_numbers.specs.declared.limits.TheConstants.{MAX_BYTES}
@@ -106,3 +107,18 @@ abbrev pub IsReadAt : Option Files → (path : List ℕ) → Result KeyList File
 IsReadAt files path (Ok list) = HoldsFile files path (keys_of list)
 IsReadAt files path (Err (InList fault)) = (bytes : Option (List ℕ)) × Finds files path bytes × IsFaultOf bytes fault
 IsReadAt files path (Err (Shelf fault)) = Unit {0}
+
+-- What is answered of the file at the path. A failed read is counted by the shelf, and nothing else is, and no file changes.
+pub record AnswersFile (old new : ShelfState) (path : List ℕ) (r : Result KeyList FileFault) : Type 0 where
+  pub read : IsReadAt old.files path r
+  pub blamed : IfErr r (BlamesBy false old new path ⊥)
+  pub fine : OnOk r (new ≡ old)
+  pub same_files : new.files ≡ old.files
+
+-- The same of a path, which may stand for the input that this reader gives.
+pub record AnswersPath {I : Type 0} (remaining : I → Option (List ℕ)) (old new : ShelfState) (path : List ℕ) (before after : Counted I) (r : Result KeyList FileFault) : Type 0 where
+  pub read : MatchResult r (λ list. Gives old.files path (remaining (inner_of before)) (remaining (inner_of after)) (keys_of list)) (HasFault old.files path (remaining (inner_of before)) (remaining (inner_of after)))
+  pub blamed : IfErr r (BlamesAt old new path (Rose (failures_of before) (failures_of after)))
+  pub fine : OnOk r (new ≡ old)
+  pub input_fine : OnOk r (failures_of after ≡ failures_of before)
+  pub same_files : new.files ≡ old.files

@@ -1,5 +1,7 @@
 -- The lists of several paths, read one after the other.
-use Rattle.std.specs.Prelude.{◌≡◌, ◌<◌, ◌+◌, ℕ, false, List, length, take, slice_get, Option, Some, Result, Ok, Err}
+use Rattle.std.specs.Prelude.{◌≡◌, ◌<◌, ◌+◌, ℕ, false, List, length, take, slice_get, Option, Some, Result, Ok, Err, IfErr, OnOk}
+use Rattle.rh_bytes.specs.Counting.{Rose, failures_of, inner_of}
+use Rattle.rh_bytes.specs.declared.counted.Counted.{Counted}
 use Rattle.rh_shelf.specs.Shelf.{CountsReads, Files, ShelfState}
 use Rattle.rh_list_files.specs.Lists.{BlamesAt, GiveEach, HasFault}
 use Rattle.rh_list_files.specs.declared.fault.CommandFault.{CommandFault}
@@ -29,3 +31,12 @@ Blames old new paths InputFailed WriterFailed faults.Memory = CountsReads false 
 abbrev pub IsInside : ℕ → CommandFault → Type 0
 IsInside many (faults.List index fault) = index < many
 IsInside many fault = Unit {0}
+
+-- What is answered of the lists at these paths, which a shelf and the reader of the input give. Where all were read, nothing was counted
+-- as failed. No file changes.
+pub record AnswersPaths {X I : Type 0} (view : X → List (List ℕ)) (remaining : I → Option (List ℕ)) (old new : ShelfState) (paths : List (List ℕ)) (before after : Counted I) (r : Result X CommandFault) : Type 0 where
+  pub read : ReadsAll view old.files paths (remaining (inner_of before)) (remaining (inner_of after)) r
+  pub blamed : IfErr r (Blames old new paths (Rose (failures_of before) (failures_of after)) ⊥)
+  pub fine : OnOk r (new ≡ old)
+  pub input_fine : OnOk r (failures_of after ≡ failures_of before)
+  pub same_files : new.files ≡ old.files

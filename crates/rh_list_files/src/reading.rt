@@ -1,20 +1,17 @@
 //! The lists are read, one after the other.
 
-ghost use Rattle.std.specs.Prelude.{◌≡◌, ◌≢◌, ◌⊎◌, ◌<◌, ◌≤◌, All, IfErr, IfOk, MatchResult, OnOk, length, map, string_bytes, false};
-ghost use Rattle.std.specs.List.{flat_map};
-ghost use Rattle.rh_bytes.specs.Counting.{Rose, failures_of, inner_of};
-ghost use Rattle.rh_layout.specs.Key.{IsKey};
+ghost use Rattle.std.specs.Prelude.{◌≡◌, IfErr, length, map, string_bytes};
 ghost use Rattle.rh_lists.specs.Lists.{keys_of};
-ghost use Rattle.rh_list_files.specs.Lists.{BlamesAt, BlamesBy, GiveEach, Gives, HasFault, IsReadAt, tells_failed_read};
-ghost use Rattle.rh_list_files.specs.Reading.{Blames, IsInside, ReadsAll};
+ghost use Rattle.rh_list_files.specs.Lists.{AnswersFile, AnswersPath, tells_failed_read};
+ghost use Rattle.rh_list_files.specs.Reading.{AnswersPaths, IsInside};
 
 use crate::fault::{CommandFault, FileFault};
 use rh_bytes::{Counted, Progress};
+use rh_forks::Team;
 use rh_key_files::KeyFault;
 use rh_lists::{KeyList, ListFault, read_list};
 use rh_numbers::TextFault;
 use rh_shelf::Lender;
-use std::alloc::Global;
 use std::io::Read;
 use std::thread::Threads;
 
@@ -23,22 +20,15 @@ pub const INPUT: &str = "-";
 
 /// Reads the list in the file at the path.
 fn read_file<T: Threads + Sync, S: Lender, P: Progress>(
-    rt: &T,
-    alloc: Global,
-    workers: usize,
+    team: &Team<'_, T>,
     shelf: &mut S,
     path: &str,
     progress: &mut P,
 ) -> Result<KeyList, FileFault>
-    requires { 0 < workers }
-    ensures read { IsReadAt (S.state shelf.old).files path.now result }
-    ensures blamed { IfErr result
-        (BlamesBy false (S.state shelf.old) (S.state shelf.new) path.now ⊥) }
-    ensures fine { OnOk result (S.state shelf.new ≡ S.state shelf.old) }
-    ensures same_files { (S.state shelf.new).files ≡ (S.state shelf.old).files }
+    ensures { AnswersFile (S.state shelf.old) (S.state shelf.new) path.now result }
 {
-    let mut reader = Counted::new(shelf.lend(alloc, path)?);
-    match read_list(rt, alloc, workers, &mut reader, progress) {
+    let mut reader = Counted::new(shelf.lend(team.alloc, path)?);
+    match read_list(team, &mut reader, progress) {
         Ok(list) => Ok(list),
         Err(fault) => {
             // Behind another fault a read may have failed too, but it is not told.
@@ -62,63 +52,41 @@ fn is_failed_read(fault: ListFault) -> bool
 
 /// Reads the list at the path, or on the input.
 fn read_path<T: Threads + Sync, S: Lender, I: Read, P: Progress>(
-    rt: &T,
-    alloc: Global,
-    workers: usize,
+    team: &Team<'_, T>,
     shelf: &mut S,
     path: &str,
     input: &mut Counted<I>,
     progress: &mut P,
 ) -> Result<KeyList, FileFault>
-    requires { 0 < workers }
-    ensures read { MatchResult result
-        (λ list. Gives (S.state shelf.old).files path.now (I.remaining (inner_of input.old))
-        (I.remaining (inner_of input.new)) (keys_of list))
-        (HasFault (S.state shelf.old).files path.now (I.remaining (inner_of input.old))
-        (I.remaining (inner_of input.new))) }
-    ensures blamed { IfErr result (BlamesAt (S.state shelf.old) (S.state shelf.new) path.now
-        (Rose (failures_of input.old) (failures_of input.new))) }
-    ensures fine { OnOk result ((S.state shelf.new ≡ S.state shelf.old)
-        × (failures_of input.new ≡ failures_of input.old)) }
-    ensures same_files { (S.state shelf.new).files ≡ (S.state shelf.old).files }
+    ensures { AnswersPath I.remaining (S.state shelf.old) (S.state shelf.new) path.now
+        input.old input.new result }
 {
     if path == INPUT {
-        let list = read_list(rt, alloc, workers, input, progress)?;
+        let list = read_list(team, input, progress)?;
         return Ok(list);
     }
-    read_file(rt, alloc, workers, shelf, path, progress)
+    read_file(team, shelf, path, progress)
 }
 
-/// Reads the lists at these paths, one after the other, up to the first that has a fault. Each is
-/// given in pieces. `-` is standard input, which is read once: what another `-` finds is nothing.
+/// Reads the lists at these paths, one after the other, up to the first that has a fault. `-` is
+/// standard input, which is read once: what another `-` finds is nothing.
 pub fn read_paths<T: Threads + Sync, S: Lender, I: Read, P: Progress>(
-    rt: &T,
-    alloc: Global,
-    workers: usize,
+    team: &Team<'_, T>,
     shelf: &mut S,
     paths: &[String],
     input: &mut Counted<I>,
     progress: &mut P,
-) -> Result<Vec<Vec<Vec<u64>>>, CommandFault>
-    requires { 0 < workers }
-    ensures read { ReadsAll (λ lists. map (λ l. flat_map (λ k. k.items) l.items) lists.items)
-        (S.state shelf.old).files (map string_bytes paths.now)
-        (I.remaining (inner_of input.old)) (I.remaining (inner_of input.new)) result }
-    ensures keys { IfOk result
-        (λ lists. All (λ l. All (λ k. All IsKey k.items) l.items) lists.items) }
+) -> Result<Vec<KeyList>, CommandFault>
+    ensures lists { AnswersPaths (λ lists. map keys_of lists.items) I.remaining
+        (S.state shelf.old) (S.state shelf.new) (map string_bytes paths.now)
+        input.old input.new result }
     ensures inside { IfErr result (IsInside (length paths.now)) }
-    ensures blamed { IfErr result
-        (Blames (S.state shelf.old) (S.state shelf.new) (map string_bytes paths.now)
-        (Rose (failures_of input.old) (failures_of input.new)) ⊥) }
-    ensures fine { OnOk result ((S.state shelf.new ≡ S.state shelf.old)
-        × (failures_of input.new ≡ failures_of input.old)) }
-    ensures same_files { (S.state shelf.new).files ≡ (S.state shelf.old).files }
 {
-    let mut lists = Vec::new(alloc);
+    let mut lists = Vec::new(team.alloc);
     for index in 0..paths.len() {
-        match read_path(rt, alloc, workers, shelf, &paths[index], input, progress) {
+        match read_path(team, shelf, &paths[index], input, progress) {
             Ok(list) => {
-                let Ok(()) = lists.push(list.into_pieces()) else {
+                let Ok(()) = lists.push(list) else {
                     return Err(CommandFault::Memory);
                 };
             }

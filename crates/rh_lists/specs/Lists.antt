@@ -1,15 +1,19 @@
 -- What a list of numbers says: a text, or a key file of either version, of any length.
-use Rattle.std.specs.Prelude.{◌≡◌, ◌⊎◌, ◌++◌, ℕ, ◌≤◌, Bool, true, false, List, [], length, Option, Some, None, Result, Ok, Err}
+use Rattle.std.specs.Prelude.{◌≡◌, ◌⊎◌, ◌++◌, ℕ, ◌≤◌, Bool, true, false, List, [], length, Option, Some, None, Result, Ok, Err, IsErrOf, OnOk}
 use Rattle.std.specs.List.{flat_map}
 use Rattle.std.specs.Io.KnownBytes.{Consumes}
+use Rattle.rh_bytes.specs.Counting.{Rose, failures_of, inner_of}
 use Rattle.rh_bytes.specs.Input as input
 use Rattle.rh_bytes.specs.Taking.{TakesAtMost}
+use Rattle.rh_bytes.specs.declared.counted.Counted.{Counted}
 use Rattle.rh_key_files.specs.declared.fault.KeyFault.{KeyFault}
+use Rattle.rh_key_files.specs.declared.fault.KeyFault.TheVariants as faults
 use Rattle.rh_key_files.specs.declared.version.Version.{Version}
 use Rattle.rh_key_files.specs.Reading as files
-use Rattle.rh_key_files.specs.Reading.{long_file_keys, version_at}
+use Rattle.rh_key_files.specs.Reading.{BeginsWithLongHeader, TakesGoodKeys, long_file_keys, long_header_at, version_at}
 use Rattle.rh_numbers.specs.declared.fault.TextFault.{TextFault}
 use Rattle.rh_numbers.specs.declared.fault.TextFault.TheVariants as texts
+use Rattle.rh_numbers.specs.declared.limits.TheConstants.{MAX_BYTES}
 use Rattle.rh_numbers.specs.Reading.{Said, SayOnly, text_said}
 use Rattle.rh_lists.specs.declared.fault.ListFault.{ListFault}
 use Rattle.rh_lists.specs.declared.fault.ListFault.TheVariants.{Text, Keys}
@@ -80,6 +84,20 @@ TakesNoFault begun old new = (taken : List ℕ) × Consumes old new taken × Has
 -- The bytes of a text that were taken hold no fault. Before its fourth byte it is not known to be one.
 abbrev pub TakesGoodLines : (old new : Option (List ℕ)) → Type 0
 TakesGoodLines old new = TakesAtMost old new 3 ⊎ TakesNoFault [] old new
+
+-- What is answered of the list that this reader gives: its keys, or its first fault. A failed read is told only where one failed,
+-- behind good lines or keys; want of memory for a key file only behind a header and good keys; that a text is too long only of so many
+-- bytes.
+pub record AnswersList {R : Type 0} (remaining : R → Option (List ℕ)) (old new : Counted R) (r : Result KeyList ListFault) : Type 0 where
+  pub known : ReadsList (remaining (inner_of old)) (remaining (inner_of new)) r
+  pub text_read : IsErrOf r (Text texts.Read) → Rose (failures_of old) (failures_of new)
+  pub keys_read : IsErrOf r (Keys faults.Read) → Rose (failures_of old) (failures_of new)
+  pub text_tested : IsErrOf r (Text texts.Read) → TakesGoodLines (remaining (inner_of old)) (remaining (inner_of new))
+  pub keys_tested : IsErrOf r (Keys faults.Read) → TakesGoodKeys long_header_at (remaining (inner_of old)) (remaining (inner_of new))
+  pub memory : IsErrOf r (Keys faults.Memory) → BeginsWithLongHeader (remaining (inner_of old))
+  pub tested_too : IsErrOf r (Keys faults.Memory) → TakesGoodKeys long_header_at (remaining (inner_of old)) (remaining (inner_of new))
+  pub long : IsErrOf r (Text texts.TooLong) → HasBytes MAX_BYTES (remaining (inner_of old))
+  pub fine : OnOk r (failures_of new ≡ failures_of old)
 
 -- The same keys, or the same fault, unless one of the two says nothing of the bytes.
 abbrev pub Agree : Result KeyList ListFault → Result KeyList ListFault → Type 0

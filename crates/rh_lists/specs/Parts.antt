@@ -1,20 +1,30 @@
 -- A part of a text, read.
-use Rattle.std.specs.Prelude.{◌≡◌, ℕ, List, [], ◌++◌, Option, Some, None, Result, Ok, Err}
+use Rattle.std.specs.Prelude.{◌≡◌, ℕ, ◌≤◌, Bool, List, [], ◌++◌, length, Option, Some, None, Result, Ok, Err, IsErrOf, IsFalse, IsOk, IsTrue, OnOk}
+use Rattle.rh_bytes.specs.Counting.{Counts, inner_of}
+use Rattle.rh_bytes.specs.declared.counted.Counted.{Counted}
 use Rattle.rh_bytes.specs.Input.{Unless}
 use Rattle.rh_numbers.specs.declared.chunk.ChunkEnd.{ChunkEnd}
 use Rattle.rh_numbers.specs.declared.chunk.ChunkEnd.TheVariants.{Open, Bad}
 use Rattle.rh_numbers.specs.declared.fault.TextFault.{TextFault}
+use Rattle.rh_numbers.specs.declared.fault.TextFault.TheVariants as texts
 use Rattle.rh_numbers.specs.declared.line_so_far.LineSoFar.{LineSoFar}
 use Rattle.rh_numbers.specs.declared.line_so_far.LineSoFar.TheVariants.{Start}
-use Rattle.rh_numbers.specs.Chunks.{ReadsTo}
+use Rattle.rh_numbers.specs.declared.limits.TheConstants.{MAX_BYTES}
+use Rattle.rh_numbers.specs.Chunks.{EndsLine, ReadsTo, last_of}
 use Rattle.rh_numbers.specs.Reading.{Said, text_said}
 use Rattle.rh_lists.specs.declared.list.KeyList.{KeyList}
 use Rattle.rh_lists.specs.declared.part.Part.{Part}
-use Rattle.rh_lists.specs.Lists.{is_text_silent, keys_of}
+use Rattle.rh_lists.specs.Lists.{HasBytes, HasNoFault, TakesNoFault, is_text_silent, keys_of}
 
 -- Where the line has said this so far, these bytes are read to the part, whatever stands before them and comes after them.
 abbrev pub IsReadTo : LineSoFar → List ℕ → Part → Type 0
 IsReadTo so_far bytes part = ReadsTo so_far bytes (keys_of part.keys) part.lines part.end
+
+-- so a worker reads them: there are no more lines than bytes, and where these end a line the part does
+pub record IsPartOf (so_far : LineSoFar) (bytes : List ℕ) (part : Part) : Type 0 where
+  pub read : IsReadTo so_far bytes part
+  pub lines : part.lines ≤ length bytes
+  pub whole : last_of bytes ≡ 10 → EndsLine part.end
 
 -- what the last line has said so far, where none is bad
 abbrev pub said_last : ChunkEnd → LineSoFar
@@ -44,3 +54,19 @@ ReadsText begun None new r = Unit {0}
 ReadsText begun (Some bytes) new (Err fault) = Refuses (text_said (begun ++ bytes)) fault
 ReadsText begun (Some bytes) None (Ok keys) = ⊥
 ReadsText begun (Some bytes) (Some rest) (Ok keys) = (text_said (begun ++ bytes) ≡ (keys_of keys, None)) × (rest ≡ [])
+
+-- What is answered of a text that begins so, and whose rest this reader gives. A failed read is told only where one failed, behind good
+-- lines, and that a text is too long only of so many bytes.
+pub record AnswersText {R : Type 0} (remaining : R → Option (List ℕ)) (begun : List ℕ) (old new : Counted R) (r : Result KeyList TextFault) : Type 0 where
+  pub known : ReadsText begun (remaining (inner_of old)) (remaining (inner_of new)) r
+  pub tested : IsErrOf r texts.Read → TakesNoFault begun (remaining (inner_of old)) (remaining (inner_of new))
+  pub counts : Counts (IsErrOf r texts.Read) (IsOk r) old new
+  pub long : IsErrOf r texts.TooLong → HasBytes MAX_BYTES (remaining (inner_of old))
+
+-- What is answered of a text of which these bytes come last, behind the part: nothing comes behind them, or a read failed there.
+pub record EndsText (text : Part) (last : List ℕ) (failed : Bool) (r : Result KeyList TextFault) : Type 0 where
+  pub told : (before rest : List ℕ) → IsReadTo Start before text → (IsFalse failed → rest ≡ []) → IsTold (text_said ((before ++ last) ++ rest)) r
+  pub tested : IsErrOf r texts.Read → (before : List ℕ) → IsReadTo Start before text → HasNoFault (before ++ last)
+  pub read : IsErrOf r texts.Read → IsTrue failed
+  pub not_long : IsErrOf r texts.TooLong → ⊥
+  pub fine : OnOk r (IsFalse failed)

@@ -1,9 +1,9 @@
 //! Lists of keys of any length: texts of numbers and key files, read by several workers.
 //!
-//! `rh_list_files` stands on it.
+//! `rh_list_files` and `rh_borders` stand on it.
 //!
 //! ```text
-//! let list = read_list(&rt, alloc, 4, &mut Counted::new(file), &mut Nobody)?;
+//! let list = read_list(&team, &mut Counted::new(file), &mut Nobody)?;
 //! for piece in list.pieces() { .. }
 //! ```
 //!

@@ -28,7 +28,7 @@ impl KeyList {
     }
 
     /// The list of these pieces.
-    pub(crate) fn of(pieces: Vec<Vec<u64>>) -> KeyList
+    pub fn of(pieces: Vec<Vec<u64>>) -> KeyList
         requires { All (λ piece. All IsKey piece.items) pieces.items }
         ensures { keys_of result ≡ flat_map (λ piece. piece.items) pieces.items }
     {
@@ -59,12 +59,5 @@ impl KeyList {
         ensures in_range { All (λ piece. All IsKey piece.items) result.now }
     {
         &self.pieces
-    }
-
-    pub fn into_pieces(self) -> Vec<Vec<u64>>
-        ensures keys { flat_map (λ piece. piece.items) result.items ≡ keys_of self }
-        ensures in_range { All (λ piece. All IsKey piece.items) result.items }
-    {
-        self.pieces
     }
 }

@@ -1,14 +1,14 @@
 //! A part of a text, read.
 
-ghost use Rattle.std.specs.Prelude.{[], ◌++◌, ◌+◌, ◌<◌, ◌^◌, ◌∷◌, ◌≡◌, ◌≤◌, List, length, ℕ};
+ghost use Rattle.std.specs.Prelude.{[], ◌++◌, ◌+◌, ◌<◌, ◌^◌, ◌∷◌, ◌≡◌, ◌≤◌, List, ℕ};
 ghost use Rattle.std.specs.Prelude.{IfErr, IfOk, IfSome, IsNone, MatchResult};
 ghost use Rattle.rh_layout.specs.Key.{IsKey};
-ghost use Rattle.rh_numbers.specs.Chunks.{EndsLine, last_of};
+ghost use Rattle.rh_numbers.specs.Chunks.{EndsLine};
 ghost use Rattle.rh_numbers.specs.Reading.{text_said};
 ghost use Rattle.rh_numbers.specs.declared.line_so_far.LineSoFar.{LineSoFar};
 ghost use Rattle.rh_numbers.specs.declared.line_so_far.LineSoFar.TheVariants.{Start};
 ghost use Rattle.rh_lists.specs.Lists.{OfHeldBytes, keys_of};
-ghost use Rattle.rh_lists.specs.Parts.{IsOpen, IsReadTo, IsTold, Refuses, so_far_of};
+ghost use Rattle.rh_lists.specs.Parts.{IsOpen, IsPartOf, IsReadTo, IsTold, Refuses, so_far_of};
 
 use crate::list::KeyList;
 use rh_numbers::{Chunk, ChunkEnd, LineSoFar, TextFault, read_chunk};
@@ -26,9 +26,7 @@ pub(crate) struct Part {
 impl Part {
     /// Reads the bytes, before which the line has said so much.
     pub(crate) fn read(alloc: Global, so_far: LineSoFar, bytes: &[u8]) -> Result<Part, AllocError>
-        ensures read { IfOk result (IsReadTo so_far bytes.now) }
-        ensures lines { IfOk result (λ part. part.lines ≤ length bytes.now) }
-        ensures whole { IfOk result (λ part. last_of bytes.now ≡ 10 → EndsLine part.end) }
+        ensures { IfOk result (IsPartOf so_far bytes.now) }
     {
         let Chunk {
             keys: piece,

@@ -1,12 +1,10 @@
 //! A text of numbers of any length, read block by block.
 
-ghost use Rattle.std.specs.Prelude.{IsOk, ◌≡◌, ◌<◌, ◌≤◌, ◌+◌, ◌++◌, ◌^◌, ℕ, List, [], IfErr, IsErrOf, IsFalse, IsTrue, OnOk, length};
-ghost use Rattle.rh_bytes.specs.Counting.{Counts, inner_of};
+ghost use Rattle.std.specs.Prelude.{◌<◌, ◌≤◌, ◌+◌, ◌++◌, ◌^◌, ℕ, List, IfErr, length};
 ghost use Rattle.rh_numbers.specs.declared.line_so_far.LineSoFar.TheVariants.{Start};
-ghost use Rattle.rh_numbers.specs.declared.limits.TheConstants.{MAX_BYTES};
 ghost use Rattle.rh_numbers.specs.Reading.{text_said};
-ghost use Rattle.rh_lists.specs.Lists.{HasBytes, HasNoFault, OfHeldBytes, TakesNoFault};
-ghost use Rattle.rh_lists.specs.Parts.{IsReadTo, IsTold, ReadsText};
+ghost use Rattle.rh_lists.specs.Lists.{OfHeldBytes};
+ghost use Rattle.rh_lists.specs.Parts.{AnswersText, EndsText, IsReadTo, IsTold};
 ghost use Rattle.rh_lists.specs.declared.limits.TheConstants.{BLOCK_BYTES, FIRST_BYTES};
 
 use crate::ahead::read_ahead;
@@ -15,6 +13,7 @@ use crate::list::KeyList;
 use crate::part::Part;
 use crate::workers::read_part;
 use rh_bytes::{Counted, Filled, Progress, fill_front};
+use rh_forks::Team;
 use rh_numbers::{LineSoFar, MAX_BYTES, TextFault};
 use std::alloc::Global;
 use std::io::Read;
@@ -36,113 +35,81 @@ pub(crate) fn read_short_text(alloc: Global, bytes: &[u8]) -> Result<KeyList, Te
 /// Reads the rest of a text that begins so, in blocks of so many bytes. The first one is small, and
 /// read by one worker, so that a short text takes little memory and no thread.
 pub(crate) fn read_text<T: Threads + Sync, R: Read, P: Progress>(
-    rt: &T,
-    alloc: Global,
-    workers: usize,
+    team: &Team<'_, T>,
     block_bytes: usize,
     begun: &[u8],
     reader: &mut Counted<R>,
     progress: &mut P,
 ) -> Result<KeyList, TextFault>
-    requires workers { 0 < workers }
     requires block { (0 < block_bytes) × (block_bytes ≤ BLOCK_BYTES) }
     requires begun { length begun.now ≤ FIRST_BYTES }
-    ensures known { ReadsText begun.now (R.remaining (inner_of reader.old))
-        (R.remaining (inner_of reader.new)) result }
-    ensures tested { IsErrOf result TextFault.Read → TakesNoFault begun.now
-        (R.remaining (inner_of reader.old)) (R.remaining (inner_of reader.new)) }
-    ensures counts { Counts (IsErrOf result TextFault.Read) (IsOk result) reader.old reader.new }
-    ensures long { IsErrOf result TextFault.TooLong →
-        HasBytes MAX_BYTES (R.remaining (inner_of reader.old)) }
+    ensures { AnswersText R.remaining begun.now reader.old reader.new result }
 {
-    let Ok(front) = Part::read(alloc, LineSoFar::Start, begun) else {
+    let Ok(front) = Part::read(team.alloc, LineSoFar::Start, begun) else {
         return Err(TextFault::Memory);
     };
-    let Ok(mut first) = vec![in alloc; 0u8; block_bytes.min(FIRST_BYTES)] else {
+    let Ok(mut first) = vec![in team.alloc; 0u8; block_bytes.min(FIRST_BYTES)] else {
         return Err(TextFault::Memory);
     };
     let Filled { count, failed } = fill_front(reader, &mut first);
     progress.read(count);
     if count < first.len() {
-        return last_block(rt, alloc, 1, front, &first[..count], failed);
+        return last_block(&team.alone(), front, &first[..count], failed);
     }
-    let Ok(part) = Part::read(alloc, front.so_far(), &first) else {
+    let Ok(part) = Part::read(team.alloc, front.so_far(), &first) else {
         return Err(TextFault::Memory);
     };
     let text = front.more(part)?;
-    read_on(rt, alloc, workers, block_bytes, text, reader, progress)
+    read_on(team, block_bytes, text, reader, progress)
 }
 
 /// Reads the rest of a text of which so much is read, in blocks of so many bytes.
 fn read_on<T: Threads + Sync, R: Read, P: Progress>(
-    rt: &T,
-    alloc: Global,
-    workers: usize,
+    team: &Team<'_, T>,
     block_bytes: usize,
     text: Part,
     reader: &mut Counted<R>,
     progress: &mut P,
 ) -> Result<KeyList, TextFault>
-    requires workers { 0 < workers }
     requires block { (0 < block_bytes) × (block_bytes ≤ BLOCK_BYTES) }
     requires lines { text.lines ≤ BLOCK_BYTES }
-    ensures known { (before : List ℕ) → IsReadTo Start before text →
-        ReadsText before (R.remaining (inner_of reader.old))
-        (R.remaining (inner_of reader.new)) result }
-    ensures tested { IsErrOf result TextFault.Read →
-        (before : List ℕ) → IsReadTo Start before text → TakesNoFault before
-        (R.remaining (inner_of reader.old)) (R.remaining (inner_of reader.new)) }
-    ensures counts { Counts (IsErrOf result TextFault.Read) (IsOk result) reader.old reader.new }
-    ensures long { IsErrOf result TextFault.TooLong →
-        HasBytes MAX_BYTES (R.remaining (inner_of reader.old)) }
+    ensures { (before : List ℕ) → IsReadTo Start before text →
+        AnswersText R.remaining before reader.old reader.new result }
 {
-    let Ok(mut block) = vec![in alloc; 0u8; block_bytes] else {
+    let Ok(mut block) = vec![in team.alloc; 0u8; block_bytes] else {
         return Err(TextFault::Memory);
     };
     let Filled { count, failed } = fill_front(reader, &mut block);
     progress.read(count);
     if count < block_bytes {
-        return last_block(rt, alloc, workers, text, &block[..count], failed);
+        return last_block(team, text, &block[..count], failed);
     }
-    read_blocks(rt, alloc, workers, text, block, reader, progress)
+    read_blocks(team, text, block, reader, progress)
 }
 
 /// Reads a text of which this block comes next, and the rest of it from the reader, in blocks that
 /// are as long.
 fn read_blocks<T: Threads + Sync, R: Read, P: Progress>(
-    rt: &T,
-    alloc: Global,
-    workers: usize,
+    team: &Team<'_, T>,
     begun: Part,
     mut block: Vec<u8>,
     reader: &mut Counted<R>,
     progress: &mut P,
 ) -> Result<KeyList, TextFault>
-    requires workers { 0 < workers }
     requires some { 0 < length block.items }
     requires few { length block.items ≤ BLOCK_BYTES }
     requires lines { begun.lines ≤ BLOCK_BYTES }
-    ensures known { (before : List ℕ) → IsReadTo Start before begun →
-        ReadsText (before ++ block.items) (R.remaining (inner_of reader.old))
-        (R.remaining (inner_of reader.new)) result }
-    ensures tested { IsErrOf result TextFault.Read →
-        (before : List ℕ) → IsReadTo Start before begun →
-        TakesNoFault (before ++ block.items) (R.remaining (inner_of reader.old))
-        (R.remaining (inner_of reader.new)) }
-    ensures counts { Counts (IsErrOf result TextFault.Read) (IsOk result) reader.old reader.new }
-    ensures long { IsErrOf result TextFault.TooLong →
-        HasBytes MAX_BYTES (R.remaining (inner_of reader.old)) }
+    ensures { (before : List ℕ) → IsReadTo Start before begun →
+        AnswersText R.remaining (before ++ block.items) reader.old reader.new result }
 {
-    let Ok(mut next) = vec![in alloc; 0u8; block.len()] else {
+    let Ok(mut next) = vec![in team.alloc; 0u8; block.len()] else {
         return Err(TextFault::Memory);
     };
     let mut text = begun;
     let mut passed = 0u64;
     while passed < MAX_BYTES {
         let (part, Filled { count, failed }) = read_ahead(
-            rt,
-            alloc,
-            workers,
+            team,
             text.so_far(),
             &block,
             reader,
@@ -154,7 +121,7 @@ fn read_blocks<T: Threads + Sync, R: Read, P: Progress>(
         };
         text = text.more(part)?;
         if count < next.len() {
-            return last_block(rt, alloc, workers, text, &next[..count], failed);
+            return last_block(team, text, &next[..count], failed);
         }
         passed += next.len() as u64;
         mem::swap(&mut block, &mut next);
@@ -164,30 +131,20 @@ fn read_blocks<T: Threads + Sync, R: Read, P: Progress>(
 
 /// Reads the last bytes of a text, behind which a read failed, or nothing comes.
 fn last_block<T: Threads + Sync>(
-    rt: &T,
-    alloc: Global,
-    workers: usize,
+    team: &Team<'_, T>,
     text: Part,
     bytes: &[u8],
     failed: bool,
 ) -> Result<KeyList, TextFault>
-    requires workers { 0 < workers }
-    requires room { text.lines + length bytes.now + 1 < 2 ^ 64 }
-    ensures told { (before rest : List ℕ) → IsReadTo Start before text →
-        (IsFalse failed → rest ≡ []) →
-        IsTold (text_said ((before ++ bytes.now) ++ rest)) result }
-    ensures tested { IsErrOf result TextFault.Read →
-        (before : List ℕ) → IsReadTo Start before text → HasNoFault (before ++ bytes.now) }
-    ensures read { IsErrOf result TextFault.Read → IsTrue failed }
-    ensures not_long { IsErrOf result TextFault.TooLong → ⊥ }
-    ensures fine { OnOk result (IsFalse failed) }
+    requires { text.lines + length bytes.now + 1 < 2 ^ 64 }
+    ensures { EndsText text bytes.now failed result }
 {
-    let Ok(part) = read_part(rt, alloc, workers, text.so_far(), bytes) else {
+    let Ok(part) = read_part(team, text.so_far(), bytes) else {
         return Err(TextFault::Memory);
     };
     let text = text.more(part)?;
     if failed {
         return Err(TextFault::Read);
     }
-    text.end_text(alloc)
+    text.end_text(team.alloc)
 }

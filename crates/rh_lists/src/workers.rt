@@ -1,14 +1,13 @@
 //! A part of a text that several workers read.
 
 ghost use Rattle.std.specs.Thread.{IsSync};
-ghost use Rattle.std.specs.Prelude.{◌≡◌, ◌≤◌, ◌<◌, ◌-◌, IfOk, IfSome, length, slice_index};
-ghost use Rattle.rh_numbers.specs.Chunks.{EndsLine, last_of};
-ghost use Rattle.rh_lists.specs.Parts.{IsReadTo};
+ghost use Rattle.std.specs.Prelude.{◌≡◌, ◌<◌, ◌-◌, IfOk, IfSome, length, slice_index};
+ghost use Rattle.rh_lists.specs.Parts.{IsPartOf};
 
 use crate::part::Part;
-use rh_forks::both;
+use rh_forks::{Team, both};
 use rh_numbers::LineSoFar;
-use std::alloc::{AllocError, Global};
+use std::alloc::AllocError;
 use std::thread::Threads;
 
 /// The first place from this one on at which a line begins behind another one.
@@ -24,43 +23,47 @@ pub(crate) fn line_from(bytes: &[u8], from: usize) -> Option<usize>
     None
 }
 
-/// Reads the bytes, before which the line has said so much, by so many workers: they are cut where
-/// a line begins, and both halves of the workers read their part side by side, while the caller
-/// waits. Where no thread can be started, one half reads after the other.
+/// Reads the bytes, before which the line has said so much, by a team: they are cut where a line
+/// begins, and both halves of the workers read their part side by side, while the caller waits.
+/// Where no thread can be started, one half reads after the other.
 #[cycle(halves)]
 pub(crate) fn read_part<T: Threads + Sync>(
-    rt: &T,
-    alloc: Global,
-    workers: usize,
+    team: &Team<'_, T>,
     so_far: LineSoFar,
     bytes: &[u8],
 ) -> Result<Part, AllocError>
-    requires { 0 < workers }
-    ensures read { IfOk result (IsReadTo so_far bytes.now) }
-    ensures lines { IfOk result (λ part. part.lines ≤ length bytes.now) }
-    ensures whole { IfOk result (λ part. last_of bytes.now ≡ 10 → EndsLine part.end) }
+    ensures { IfOk result (IsPartOf so_far bytes.now) }
 {
-    if workers == 1 {
+    let Team { rt, alloc, workers } = *team;
+    let Some((first, others)) = workers.halves() else {
         return Part::read(alloc, so_far, bytes);
-    }
-    let first = workers / 2;
-    let others = workers - first;
-    let Some(at) = line_from(bytes, bytes.len() / workers * first) else {
+    };
+    let Some(at) = line_from(bytes, bytes.len() / workers.count * first.count) else {
         return Part::read(alloc, so_far, bytes);
     };
     let (front, back) = bytes.split_at(at);
     let theirs = move || -> Result<Part, AllocError>
-        requires { IsSync T.row × (0 < first) }
-        ensures { IfOk result (λ part. IsReadTo so_far front.entry.now part
-            × (part.lines ≤ length front.entry.now)
-            × (last_of front.entry.now ≡ 10 → EndsLine part.end)) }
-    { read_part(rt, alloc, first, so_far, front) };
+        requires { IsSync T.row }
+        ensures { IfOk result (IsPartOf so_far front.entry.now) }
+    {
+        let half = Team {
+            rt,
+            alloc,
+            workers: first,
+        };
+        read_part(&half, so_far, front)
+    };
     let ours = move || -> Result<Part, AllocError>
-        requires { IsSync T.row × (0 < others) }
-        ensures { IfOk result (λ part. IsReadTo LineSoFar.Start back.entry.now part
-            × (part.lines ≤ length back.entry.now)
-            × (last_of back.entry.now ≡ 10 → EndsLine part.end)) }
-    { read_part(rt, alloc, others, LineSoFar::Start, back) };
+        requires { IsSync T.row }
+        ensures { IfOk result (IsPartOf LineSoFar.Start back.entry.now) }
+    {
+        let half = Team {
+            rt,
+            alloc,
+            workers: others,
+        };
+        read_part(&half, LineSoFar::Start, back)
+    };
     let (before, behind) = both(rt, theirs, ours);
     let before = before?;
     let behind = behind?;

@@ -8,6 +8,7 @@ ghost use Rattle.rhkeys.specs.Asked.{EndsLists, how_asked, output_asked};
 use rh_bytes::Counted;
 use rh_cli::Status;
 use rh_combine::How;
+use rh_forks::{Team, Workers};
 use rh_key_commands::line::Combination;
 use rh_keys_program::{Fault, Line, bytes_of, times_named, told, workers_of};
 use rh_list_commands::{Job, Output, combine_files};
@@ -49,15 +50,19 @@ pub fn combine<W: Write + Drop>(
     let mut shelf = CountedShelf::new(FileShelf::new(rt));
     let mut input = Counted::new(rt.reader());
     let mut writer = Counted::new(writer);
+    let count = workers_of(rt, asked.workers);
+    let team = Team {
+        rt,
+        alloc: rt.alloc(),
+        workers: Workers { count },
+    };
     let job = Job {
         how: how_of(asked.combination),
         output,
-        workers: workers_of(rt, asked.workers),
         paths: &asked.files,
     };
     let outcome = combine_files(
-        rt,
-        rt.alloc(),
+        &team,
         &job,
         &mut shelf,
         &mut input,

@@ -4,9 +4,9 @@ use Rattle.rh_borders.proofs.borders.borders_at.Given as goal
 
 abbrev pub invariant-loop-part : goal.invariant-loop-part
 invariant-loop-part l = record {
-  many : vec_len l.borders ≡ l.part;
-  first : slice_index l.borders.items 0 ≡ 0;
+  many : vec_len l.values ≡ l.part;
+  first : slice_index l.values.items 0 ≡ 0;
   in_range : l.last ≤ MAX_KEY + 1;
-  below : (i : ℕ) → i < l.part → slice_index l.borders.items i ≤ l.last;
-  rise : (i : ℕ) → i + 1 < l.part → slice_index l.borders.items i ≤ slice_index l.borders.items (i + 1);
+  below : (i : ℕ) → i < l.part → slice_index l.values.items i ≤ l.last;
+  rise : (i : ℕ) → i + 1 < l.part → slice_index l.values.items i ≤ slice_index l.values.items (i + 1);
 }

@@ -19,8 +19,8 @@ loop-i-preserved c =
       each = λ p inside.
           let part = c.in_ok-numbers.ensures.part i p inside_keys (omega (arith, inside, before.many, c.put.ensures.len)) ∙ ap (λ m. m == p) (sym is) in
           elim (cases_eq p n) [
-            | inl here ↦ key_more c.args.borders.now c.args.keys.now i n p inside_keys part _ _ here (before.each p (omega (arith, inside, c.put.ensures.len))) (rw here c.in_ok-put.ensures.there)
-            | inr there ↦ key_elsewhere c.args.borders.now c.args.keys.now i n p inside_keys part _ _ there (before.each p (omega (arith, inside, c.put.ensures.len))) (c.put.ensures.others p there)
+            | inl here ↦ key_more c.args.borders.now.values.items c.args.keys.now i n p inside_keys part _ _ here (before.each p (omega (arith, inside, c.put.ensures.len))) (rw here c.in_ok-put.ensures.there)
+            | inr there ↦ key_elsewhere c.args.borders.now.values.items c.args.keys.now i n p inside_keys part _ _ there (before.each p (omega (arith, inside, c.put.ensures.len))) (c.put.ensures.others p there)
           ];
     }
 
@@ -28,5 +28,5 @@ pub returns : goal.returns
 returns c =
     record {
       many = c.loop-i.invariant.many;
-      each = λ p inside. c.loop-i.invariant.each p inside ∙ ap (between c.args.borders.now p (p + 1)) (take_all c.loop-i.i c.args.keys.now (omega (arith, c.in_ok-numbers.ensures.len)));
+      each = λ p inside. c.loop-i.invariant.each p inside ∙ ap (between c.args.borders.now.values.items p (p + 1)) (take_all c.loop-i.i c.args.keys.now (omega (arith, c.in_ok-numbers.ensures.len)));
     }

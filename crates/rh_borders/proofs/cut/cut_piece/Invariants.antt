@@ -4,6 +4,6 @@ use Rattle.rh_borders.proofs.cut.cut_piece.Given as goal
 
 abbrev pub invariant-loop-i : goal.invariant-loop-i
 invariant-loop-i l = record {
-  many : length l.parts + 1 ≡ length l.borders;
-  each : (p : ℕ) → p < length l.parts → get_or l.parts p [] ≡ between l.borders p (p + 1) (take l.i l.keys);
+  many : length l.parts + 1 ≡ length l.borders.values.items;
+  each : (p : ℕ) → p < length l.parts → get_or l.parts p [] ≡ between l.borders.values.items p (p + 1) (take l.i l.keys);
 }

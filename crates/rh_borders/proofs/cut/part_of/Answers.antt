@@ -6,5 +6,5 @@ pub returns-clause-part : goal.returns-clause-part
 returns-clause-part c =
     let at = c.loop-size.invariant in
     let one : c.loop-size.size ≡ 1 = omega (arith, at.some, c.loop-size-test.false) in
-    let same = ap (λ n. slice_index c.args.borders.now (c.loop-size.low + n)) one in
-    part_is c.args.borders.now c.requires.borders c.loop-size.low c.args.key (omega (arith, at.inside, one)) at.above (omega (arith, at.below, same))
+    let same = ap (λ n. slice_index c.args.borders.now.values.items (c.loop-size.low + n)) one in
+    part_is c.args.borders.now.values.items c.args.borders.now.are c.loop-size.low c.args.key (omega (arith, at.inside, one)) at.above (omega (arith, at.below, same))

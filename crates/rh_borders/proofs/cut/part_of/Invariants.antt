@@ -4,9 +4,9 @@ use Rattle.rh_borders.proofs.cut.part_of.Given as goal
 abbrev pub invariant-loop-size : goal.invariant-loop-size
 invariant-loop-size l = record {
   some : 0 < l.size;
-  inside : l.low + l.size < length l.borders;
-  above : slice_index l.borders l.low ≤ l.key;
-  below : l.key < slice_index l.borders (l.low + l.size);
+  inside : l.low + l.size < length l.borders.values.items;
+  above : slice_index l.borders.values.items l.low ≤ l.key;
+  below : l.key < slice_index l.borders.values.items (l.low + l.size);
 }
 
 abbrev pub decreases-loop-size : goal.decreases-loop-size

@@ -7,11 +7,11 @@ use Rattle.rh_borders.proofs.CutLemmas.{no_piece, piece_more}
 use Rattle.rh_borders.proofs.lists.cut_each.Goals as goal
 
 pub loop-piece-init : goal.loop-piece-init
-loop-piece-init c = no_piece c.args.borders.now _ (search rules)
+loop-piece-init c = no_piece c.args.borders.now.values.items _ (search rules)
 
 pub loop-piece-preserved : goal.loop-piece-preserved
 loop-piece-preserved c =
-    let borders = c.args.borders.now in
+    let borders = c.args.borders.now.values.items in
     let are = IfOk-at_ok (λ (parts : List (List ℕ)). AreParts borders c.deref.result.now parts) c.in_ok-parts.was c.cut_piece.ensures in
     piece_more (λ k. k.items) borders c.args.pieces.now c.loop-piece.piece-index c.piece-item.result c.loop-piece.cut.items c.push.new.self.items c.in_ok-parts.parts
     (omega arith) c.piece-item.is c.in_ok-push.ensures.items c.loop-piece.invariant
@@ -19,4 +19,4 @@ loop-piece-preserved c =
 
 pub returns : goal.returns
 returns c =
-    subst (λ ps. IsCut c.args.borders.now (flat_map (λ k. k.items) ps) c.loop-piece.cut.items) (take_all c.loop-piece.piece-index c.args.pieces.now (omega arith)) c.loop-piece.invariant
+    subst (λ ps. IsCut c.args.borders.now.values.items (flat_map (λ k. k.items) ps) c.loop-piece.cut.items) (take_all c.loop-piece.piece-index c.args.pieces.now (omega arith)) c.loop-piece.invariant

@@ -12,7 +12,7 @@ returns c = record {
       let parts : c.parts-parts.result ≡ parts_of cut = omega (arith, c.parts-parts.ensures) in
       let from : c.edge-from.result ≡ edge c.args.first c.args.number c.args.size (parts_of cut) = c.edge-from.ensures ∙ ap (edge c.args.first c.args.number c.args.size) parts in
       let to : c.edge-to.result ≡ edge c.args.first (c.args.number + 1) c.args.size (parts_of cut) = c.edge-to.ensures ∙ ap (edge c.args.first (c.args.number + 1) c.args.size) parts in
-      let numbers = c.in_ok-numbers.ensures lists are ∙ (λ j. between cut.borders.items (from j) (to j) (answer c.args.wanted.how lists)) in
+      let numbers = c.in_ok-numbers.ensures lists are ∙ (λ j. between cut.borders.values.items (from j) (to j) (answer c.args.wanted.how lists)) in
       record {
         bytes = c.in_ok-bytes.ensures ∙ ap (spelled c.args.wanted.form) (c.deref.ensures.value ∙ numbers);
         count = c.len.ensures ∙ c.in_ok-numbers.numbers.ok.0 ∙ ap length numbers;

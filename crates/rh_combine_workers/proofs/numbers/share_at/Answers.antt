@@ -12,5 +12,5 @@ returns c = record {
       let parts : c.parts-parts.result ≡ parts_of cut = omega (arith, c.parts-parts.ensures) in
       let from : c.edge-from.result ≡ edge 0 c.args.number c.args.size (parts_of cut) = c.edge-from.ensures ∙ ap (edge 0 c.args.number c.args.size) parts in
       let to : c.edge-to.result ≡ edge 0 (c.args.number + 1) c.args.size (parts_of cut) = c.edge-to.ensures ∙ ap (edge 0 (c.args.number + 1) c.args.size) parts in
-      IfOk-weaker c.of_parts.result _ _ (λ v is. is ∙ (λ j. between cut.borders.items (from j) (to j) (answer c.args.how lists))) (c.of_parts.ensures lists are);
+      IfOk-weaker c.of_parts.result _ _ (λ v is. is ∙ (λ j. between cut.borders.values.items (from j) (to j) (answer c.args.how lists))) (c.of_parts.ensures lists are);
 }

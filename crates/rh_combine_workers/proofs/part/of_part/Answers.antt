@@ -1,5 +1,7 @@
 use Rattle.std.proofs.Common.{◌∙◌, ◌+◌, ap, slice_index}
 use Rattle.std.specs.Prelude.{map}
+use Rattle.std.proofs.Math.Logic.{∥∥₁_elim}
+use Rattle.std.proofs.Props.{props}
 use Rattle.rh_layout.specs.Range.{stands}
 use Rattle.rh_combine.specs.Combine.{answer}
 use Rattle.rh_combine.proofs.RangeLaws.{answer_of}
@@ -11,24 +13,24 @@ use Rattle.rh_combine_workers.proofs.part.of_part.Goals as goal
 
 pub all_gathered-requires : goal.all_gathered-requires
 all_gathered-requires c =
-    rw c.deref.ensures.value (parts_inside (λ l. l.items) c.args.cut.now.borders.items c.args.part c.args.cut.now.lists.items c.requires.part c.requires.lists.1.parts.many)
+    ∥∥₁_elim c.args.cut.now.of_lists (Prim.hlevel props)
+    (λ of. rw c.deref.ensures.value (parts_inside (λ l. l.items) c.args.cut.now.borders.values.items c.args.part c.args.cut.now.lists.items c.requires of.1.many))
 
 pub combined-requires : goal.combined-requires
 combined-requires c =
-    let lists = c.requires.lists.0 in
-    let are = c.requires.lists.1 in
-    let borders = c.args.cut.now.borders.items in
-    are_keys (λ l. l.now) (slice_index borders c.args.part) (slice_index borders (c.args.part + 1)) c.deref-3.result.now (all_keys_below borders are.borders (c.args.part + 1) c.requires.part)
-    (range_within (slice_index borders c.args.part) (slice_index borders (c.args.part + 1)) lists _ (ap (map (λ l. l.now)) c.deref-3.ensures.value ∙ c.in_ok-slices.ensures
+    let borders = c.args.cut.now.borders.values.items in
+    ∥∥₁_elim c.args.cut.now.of_lists (Prim.hlevel props)
+    (λ of. are_keys (λ l. l.now) (slice_index borders c.args.part) (slice_index borders (c.args.part + 1)) c.deref-3.result.now (all_keys_below borders c.args.cut.now.borders.are (c.args.part + 1) c.requires)
+    (range_within (slice_index borders c.args.part) (slice_index borders (c.args.part + 1)) of.0 _ (ap (map (λ l. l.now)) c.deref-3.ensures.value ∙ c.in_ok-slices.ensures
     ∙ ap (map (λ l. l.items)) c.deref-2.ensures.value ∙ c.in_ok-mine.ensures
     ∙ ap (map (λ l. part_of l.items c.args.part)) c.deref.ensures.value
-    ∙ of_lists (λ l. l.items) borders lists c.args.cut.now.lists.items c.args.part are.parts c.requires.part))
+    ∙ of_lists (λ l. l.items) borders of.0 c.args.cut.now.lists.items c.args.part of.1 c.requires)))
 
 pub returns : goal.returns
 returns c lists are =
-    let borders = c.args.cut.now.borders.items in
+    let borders = c.args.cut.now.borders.values.items in
     c.in_ok-found.ensures ∙ ap (answer c.args.how) (ap (map (λ l. l.now)) c.deref-3.ensures.value ∙ c.in_ok-slices.ensures
     ∙ ap (map (λ l. l.items)) c.deref-2.ensures.value ∙ c.in_ok-mine.ensures
     ∙ ap (map (λ l. part_of l.items c.args.part)) c.deref.ensures.value
-    ∙ of_lists (λ l. l.items) borders lists c.args.cut.now.lists.items c.args.part are.parts c.requires.part)
+    ∙ of_lists (λ l. l.items) borders lists c.args.cut.now.lists.items c.args.part are.parts c.requires)
     ∙ answer_of (stands (slice_index borders c.args.part) (slice_index borders (c.args.part + 1))) c.args.how lists

@@ -6,11 +6,11 @@ use Rattle.rh_borders.proofs.BorderLemmas.{rise_to}
 use Rattle.rh_combine_workers.proofs.part.of_parts.Goals as goal
 
 pub loop-part-init : goal.loop-part-init
-loop-part-init c lists are = c.new-found.ensures.items ∙ sym (within-none (slice_index c.args.cut.now.borders.items c.args.from) (answer c.args.how lists))
+loop-part-init c lists are = c.new-found.ensures.items ∙ sym (within-none (slice_index c.args.cut.now.borders.values.items c.args.from) (answer c.args.how lists))
 
 pub loop-part-preserved : goal.loop-part-preserved
 loop-part-preserved c lists are =
-    let borders = c.args.cut.now.borders.items in
+    let borders = c.args.cut.now.borders.values.items in
     let part = c.loop-part.part in
     let before = c.loop-part.invariant lists are in
     let here = c.in_ok-more.ensures lists are in

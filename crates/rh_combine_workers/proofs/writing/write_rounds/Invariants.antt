@@ -11,8 +11,8 @@ use Rattle.rh_combine_workers.proofs.writing.write_rounds.Given as goal
 abbrev pub invariant-loop-first : goal.invariant-loop-first
 invariant-loop-first g l = record {
   inside : l.first ≤ l.parts;
-  written : (lists : List (List ℕ)) → AreLists l.cut lists → Appends (g.W.Write.contents (inner_of l.fn.writer)) (g.W.Write.contents (inner_of l.writer)) (spelled l.wanted.form (between l.cut.borders.items 0 l.first (answer l.wanted.how lists)));
-  count : (lists : List (List ℕ)) → AreLists l.cut lists → l.count ≡ min (length (between l.cut.borders.items 0 l.first (answer l.wanted.how lists))) (2 ^ 64 - 1);
+  written : (lists : List (List ℕ)) → AreLists l.cut lists → Appends (g.W.Write.contents (inner_of l.fn.writer)) (g.W.Write.contents (inner_of l.writer)) (spelled l.wanted.form (between l.cut.borders.values.items 0 l.first (answer l.wanted.how lists)));
+  count : (lists : List (List ℕ)) → AreLists l.cut lists → l.count ≡ min (length (between l.cut.borders.values.items 0 l.first (answer l.wanted.how lists))) (2 ^ 64 - 1);
   fine : failures_of l.writer ≡ failures_of l.fn.writer;
 }
 

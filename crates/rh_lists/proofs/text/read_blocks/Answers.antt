@@ -4,22 +4,27 @@ use Rattle.std.proofs.lemmas.List.{take_all, take_at, with_items_is}
 use Rattle.std.proofs.lemmas.Result.{IfOk-at_ok, err_from_is_err_and}
 use Rattle.rh_bytes.specs.Counting.{inner_of}
 use Rattle.rh_numbers.specs.declared.limits.TheConstants.{MAX_BYTES}
-use Rattle.rh_lists.specs.Parts.{IsReadTo, so_far_of}
+use Rattle.rh_lists.specs.Parts.{IsPartOf, IsReadTo, so_far_of}
 use Rattle.rh_lists.proofs.Texts.{block_refused, going_on, last_read, last_tested, long_taken, not_failed, taken_on}
 use Rattle.rh_lists.proofs.text.read_blocks.Goals as goal
 
-pub returns-in_err-text-clause-known : goal.returns-in_err-text-clause-known
-returns-in_err-text-clause-known g c = λ before read.
+pub returns-in_err-text : goal.returns-in_err-text
+returns-in_err-text g c = λ before read.
     let p = err_from_is_err_and c.from_residual.result c.from_residual.ensures.1 in
     let text = c.loop-passed.text in
     let block = c.loop-passed.block.items in
     let part = c.in-Ok-part.part in
-    let second = IfOk-at_ok (IsReadTo c.so_far.result c.deref.result.now) c.in-Ok-part.is c.read_ahead-part.ensures.read in
-    let here : IsReadTo (so_far_of text) block part = subst (λ s. IsReadTo s block part) c.so_far.ensures (subst (λ l. IsReadTo c.so_far.result l part) c.deref.ensures.value second) in
-    rw (p.1, p.2) (block_refused _ _ _ _ block text c.in_err-text.field-0.0 (c.loop-passed.invariant.going before read) (λ b rest r. c.in_err-text.ensures.read b block rest r here))
+    let second = IfOk-at_ok (IsPartOf c.so_far.result c.deref.result.now) c.in-Ok-part.is c.read_ahead-part.ensures.part in
+    let here : IsReadTo (so_far_of text) block part = subst (λ s. IsReadTo s block part) c.so_far.ensures (subst (λ l. IsReadTo c.so_far.result l part) c.deref.ensures.value second.read) in
+    rw (p.1, p.2) (record {
+      known = block_refused _ _ _ _ block text c.in_err-text.field-0.0 (c.loop-passed.invariant.going before read) (λ b rest r. c.in_err-text.ensures.read b block rest r here);
+      tested = search rules;
+      counts = search rules;
+      long = search rules;
+    })
 
-pub returns-then-count-len-clause-known : goal.returns-then-count-len-clause-known
-returns-then-count-len-clause-known g c = λ before read.
+pub returns-then-count-len : goal.returns-then-count-len
+returns-then-count-len g c = λ before read.
     let mid = g.R.Read.remaining (inner_of c.loop-passed.reader) in
     let now = g.R.Read.remaining (inner_of c.read_ahead-part.new.reader) in
     let text = c.loop-passed.text in
@@ -27,14 +32,21 @@ returns-then-count-len-clause-known g c = λ before read.
     let part = c.in-Ok-part.part in
     let filled = c.read_ahead-part.result.1 in
     let next = c.read_ahead-part.new.next in
-    let second = IfOk-at_ok (IsReadTo c.so_far.result c.deref.result.now) c.in-Ok-part.is c.read_ahead-part.ensures.read in
-    let here : IsReadTo (so_far_of text) block part = subst (λ s. IsReadTo s block part) c.so_far.ensures (subst (λ l. IsReadTo c.so_far.result l part) c.deref.ensures.value second) in
+    let second = IfOk-at_ok (IsPartOf c.so_far.result c.deref.result.now) c.in-Ok-part.is c.read_ahead-part.ensures.part in
+    let here : IsReadTo (so_far_of text) block part = subst (λ s. IsReadTo s block part) c.so_far.ensures (subst (λ l. IsReadTo c.so_far.result l part) c.deref.ensures.value second.read) in
     let len : length next ≡ c.loop-passed.next.len = search rules in
     let short : filled.count < length next = search rules in
     let same : c.deref-then-count-len.result.now ≡ next = c.deref-then-count-len.ensures.value ∙ take_at next (drop (length next) c.loop-passed.next.items) c.loop-passed.next.len len in
-    last_read _ _ mid now block (take filled.count c.deref-then-count-len.result.now) text c.in_ok-text.text filled.failed c.last_block.result (c.loop-passed.invariant.going before read)
-    (subst (λ l. Consumes mid now (take filled.count l)) (sym same) c.read_ahead-part.ensures.filled.bytes) (λ fine. c.read_ahead-part.ensures.filled.end fine short)
-    (λ b r. c.in_ok-text.ensures.read b block r here) c.last_block.ensures.told c.last_block.ensures.fine
+    let last = take filled.count c.deref-then-count-len.result.now in
+    let comes : Consumes mid now last = subst (λ l. Consumes mid now (take filled.count l)) (sym same) c.read_ahead-part.ensures.filled.bytes in
+    let going = c.loop-passed.invariant.going before read in
+    record {
+      known = last_read _ _ mid now block last text c.in_ok-text.text filled.failed c.last_block.result going comes (λ fine. c.read_ahead-part.ensures.filled.end fine short)
+          (λ b r. c.in_ok-text.ensures.read b block r here) c.last_block.ensures.told c.last_block.ensures.fine;
+      tested = λ failed. last_tested _ _ mid now block last text c.in_ok-text.text going comes (λ b r. c.in_ok-text.ensures.read b block r here) (c.last_block.ensures.tested failed);
+      counts = search rules;
+      long = search rules;
+    }
 
 pub loop-passed-preserved : goal.loop-passed-preserved
 loop-passed-preserved g c =
@@ -45,41 +57,28 @@ loop-passed-preserved g c =
     let part = c.in-Ok-part.part in
     let filled = c.read_ahead-part.result.1 in
     let next = c.read_ahead-part.new.next in
-    let second = IfOk-at_ok (IsReadTo c.so_far.result c.deref.result.now) c.in-Ok-part.is c.read_ahead-part.ensures.read in
-    let here : IsReadTo (so_far_of text) block part = subst (λ s. IsReadTo s block part) c.so_far.ensures (subst (λ l. IsReadTo c.so_far.result l part) c.deref.ensures.value second) in
+    let read = IfOk-at_ok (IsPartOf c.so_far.result c.deref.result.now) c.in-Ok-part.is c.read_ahead-part.ensures.part in
+    let here : IsReadTo (so_far_of text) block part = subst (λ s. IsReadTo s block part) c.so_far.ensures (subst (λ l. IsReadTo c.so_far.result l part) c.deref.ensures.value read.read) in
     let len : length next ≡ c.loop-passed.next.len = search rules in
     let size : c.len-in-loop-passed-2.result ≡ length next = search rules in
     let full : length next ≤ filled.count = search rules in
     let all : take filled.count next ≡ next = take_all filled.count next full in
     let as_long : length next ≡ length c.args.block.items = search rules in
-    let part_lines = IfOk-at_ok (λ p. p.lines ≤ length c.deref.result.now) c.in-Ok-part.is c.read_ahead-part.ensures.lines in
     let same : c.swap.new.x.items ≡ next = ap (λ v. v.items) c.swap.ensures.x_after ∙ with_items_is c.loop-passed.next next len in
     let comes : Consumes mid now c.swap.new.x.items = subst (Consumes mid now) (all ∙ sym same) c.read_ahead-part.ensures.filled.bytes in
     record {
-      going = λ before read. going_on _ _ mid now block c.swap.new.x.items text c.in_ok-text.text (c.loop-passed.invariant.going before read) comes (λ b r. c.in_ok-text.ensures.read b block r here);
-      lines = omega (arith, c.in_ok-text.ensures.lines, c.loop-passed.invariant.lines, part_lines, ap length c.deref.ensures.value, c.loop-passed.invariant.size, size, as_long);
+      going = λ before begun. going_on _ _ mid now block c.swap.new.x.items text c.in_ok-text.text (c.loop-passed.invariant.going before begun) comes (λ b r. c.in_ok-text.ensures.read b block r here);
+      lines = omega (arith, c.in_ok-text.ensures.lines, c.loop-passed.invariant.lines, read.lines, ap length c.deref.ensures.value, c.loop-passed.invariant.size, size, as_long);
       size = ap length same ∙ as_long;
       room = ap (λ v. length v.items) c.swap.ensures.y_after ∙ c.loop-passed.invariant.size;
       taken = taken_on _ mid now _ c.swap.new.x.items c.loop-passed.invariant.taken comes _ (ap length same ∙ sym size);
       fine = c.read_ahead-part.ensures.filled.fine (not_failed filled.failed filled.count (length next) c.read_ahead-part.ensures.filled.early full) ∙ c.loop-passed.invariant.fine;
     }
 
-pub returns-clause-long : goal.returns-clause-long
-returns-clause-long g c = λ is. long_taken _ _ _ MAX_BYTES c.loop-passed.invariant.taken (omega arith)
-
-pub returns-then-count-len-clause-tested : goal.returns-then-count-len-clause-tested
-returns-then-count-len-clause-tested g c = λ failed before read.
-    let mid = g.R.Read.remaining (inner_of c.loop-passed.reader) in
-    let now = g.R.Read.remaining (inner_of c.read_ahead-part.new.reader) in
-    let text = c.loop-passed.text in
-    let block = c.loop-passed.block.items in
-    let part = c.in-Ok-part.part in
-    let filled = c.read_ahead-part.result.1 in
-    let next = c.read_ahead-part.new.next in
-    let second = IfOk-at_ok (IsReadTo c.so_far.result c.deref.result.now) c.in-Ok-part.is c.read_ahead-part.ensures.read in
-    let here : IsReadTo (so_far_of text) block part = subst (λ s. IsReadTo s block part) c.so_far.ensures (subst (λ l. IsReadTo c.so_far.result l part) c.deref.ensures.value second) in
-    let len : length next ≡ c.loop-passed.next.len = search rules in
-    let same : c.deref-then-count-len.result.now ≡ next = c.deref-then-count-len.ensures.value ∙ take_at next (drop (length next) c.loop-passed.next.items) c.loop-passed.next.len len in
-    last_tested _ _ mid now block (take filled.count c.deref-then-count-len.result.now) text c.in_ok-text.text (c.loop-passed.invariant.going before read)
-    (subst (λ l. Consumes mid now (take filled.count l)) (sym same) c.read_ahead-part.ensures.filled.bytes)
-    (λ b r. c.in_ok-text.ensures.read b block r here) (c.last_block.ensures.tested failed)
+pub returns : goal.returns
+returns g c = λ before read. record {
+  known = search rules;
+  tested = search rules;
+  counts = search rules;
+  long = λ is. long_taken _ _ _ MAX_BYTES c.loop-passed.invariant.taken (omega arith);
+}

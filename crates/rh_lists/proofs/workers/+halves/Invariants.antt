@@ -2,10 +2,10 @@ use Rattle.std.proofs.Common.{◌+◌, ◌*◌}
 use Rattle.rh_lists.proofs.workers.+halves.Given as goal
 
 abbrev pub decreases-read_part : goal.decreases-read_part
-decreases-read_part g l = 2 * l.workers
+decreases-read_part g l = 2 * l.team.now.workers.count
 
 abbrev pub decreases-theirs : goal.decreases-theirs
-decreases-theirs g l = 2 * l.first + 1
+decreases-theirs g l = 2 * l.first.count + 1
 
 abbrev pub decreases-ours : goal.decreases-ours
-decreases-ours g l = 2 * l.others + 1
+decreases-ours g l = 2 * l.others.count + 1

@@ -1,0 +1,4 @@
+//! How many parts there may be.
+
+/// The most parts.
+pub const MOST_PARTS: usize = 1_024;
