@@ -6,7 +6,7 @@ ghost use Rattle.rh_borders.specs.declared.limits.TheConstants.{MOST_PARTS};
 
 use crate::limits::MOST_PARTS;
 use rh_layout::MAX_KEY;
-use rh_lists::KeyList;
+use rh_pieces::KeyList;
 use std::alloc::{AllocError, Global};
 
 /// About how many keys a part shall have, repeats counted.

@@ -4,7 +4,7 @@ ghost use Rattle.std.specs.Thread.{IsSync};
 ghost use Rattle.std.specs.Prelude.{All, IfOk, map};
 ghost use Rattle.std.specs.List.{flat_map};
 ghost use Rattle.rh_layout.specs.Key.{IsKey};
-ghost use Rattle.rh_lists.specs.Lists.{keys_of};
+ghost use Rattle.rh_pieces.specs.Pieces.{keys_in};
 ghost use Rattle.rh_borders.specs.Borders.{IsCut};
 ghost use Rattle.rh_borders.specs.Cut.{AreLists};
 
@@ -13,7 +13,7 @@ use crate::cut::cut_piece;
 use crate::parts::Parts;
 use crate::whole::CutLists;
 use rh_forks::{Team, both};
-use rh_lists::KeyList;
+use rh_pieces::KeyList;
 use std::alloc::{AllocError, Global};
 use std::thread::Threads;
 
@@ -89,7 +89,7 @@ pub fn cut_lists<T: Threads + Sync>(
     team: &Team<'_, T>,
     lists: Vec<KeyList>,
 ) -> Result<CutLists, AllocError>
-    ensures { IfOk result (λ cut. AreLists cut (map keys_of lists.items)) }
+    ensures { IfOk result (λ cut. AreLists cut (map keys_in lists.items)) }
 {
     let keys = keys_in(&lists);
     let borders = borders_for(team.alloc, &lists, keys)?;

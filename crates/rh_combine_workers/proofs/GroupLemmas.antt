@@ -8,8 +8,8 @@ use Rattle.std.proofs.lemmas.List.Concat.{flat_map-append}
 use Rattle.std.proofs.lemmas.List.Sums.{sum_by-cons}
 use Rattle.rh_layout.specs.Key.{IsKey}
 use Rattle.rh_layout.specs.declared.limits.TheConstants.{MAX_KEY}
-use Rattle.rh_lists.specs.Lists.{keys_of}
-use Rattle.rh_lists.specs.declared.list.KeyList.{KeyList}
+use Rattle.rh_pieces.specs.Pieces.{keys_in}
+use Rattle.rh_pieces.specs.declared.list.KeyList.{KeyList}
 use Rattle.rh_combine.specs.declared.how.How.{How}
 use Rattle.rh_layout.specs.Range.{within}
 use Rattle.rh_combine.specs.Combine.{AllWithin, answer}
@@ -149,5 +149,5 @@ keys_of_pieces f (x ∷ pieces) all = both (f x) (flat_map f pieces) (all 0 x (o
     both (x ∷ xs) ys first second zero d inside = first 0 x (omega arith)
     both (x ∷ xs) ys first second (suc i) d inside = both xs ys (λ j e here. first (suc j) e (omega (arith, here))) second i d (omega (arith, inside))
 
-pub keys_of_lists : (lists : List KeyList) → AllWithin 0 (MAX_KEY + 1) (map keys_of lists)
-keys_of_lists lists = all_keys keys_of lists (λ i d inside. keys_of_pieces (λ piece. piece.items) (get_or lists i d).pieces.items (get_or lists i d).in_range)
+pub keys_of_lists : (lists : List KeyList) → AllWithin 0 (MAX_KEY + 1) (map keys_in lists)
+keys_of_lists lists = all_keys keys_in lists (λ i d inside. keys_of_pieces (λ piece. piece.items) (get_or lists i d).pieces.items (get_or lists i d).in_range)

@@ -2,7 +2,7 @@
 
 ghost use Rattle.std.specs.Prelude.{◌≡◌, ℕ, ◌+◌, ◌^◌, ◌<◌, IfOk, Ok, length, map, slice_index_or};
 ghost use Rattle.std.specs.List.{flat_map};
-ghost use Rattle.rh_lists.specs.Lists.{keys_of};
+ghost use Rattle.rh_pieces.specs.Pieces.{keys_in};
 ghost use Rattle.rh_combine.specs.Combine.{answer};
 ghost use Rattle.rh_combine_workers.specs.Groups.{TellsShare};
 
@@ -11,7 +11,7 @@ use crate::part::of_parts;
 use rh_borders::{CutLists, cut_lists};
 use rh_combine::How;
 use rh_forks::{Team, map_indices};
-use rh_lists::KeyList;
+use rh_pieces::KeyList;
 use std::alloc::{AllocError, Global};
 use std::thread::Threads;
 
@@ -89,7 +89,7 @@ pub fn combine<T: Threads + Sync>(
     how: How,
     lists: Vec<KeyList>,
 ) -> Result<Vec<u64>, AllocError>
-    ensures { IfOk result (λ v. v.items ≡ answer how (map keys_of lists.items)) }
+    ensures { IfOk result (λ v. v.items ≡ answer how (map keys_in lists.items)) }
 {
     let cut = cut_lists(team, lists)?;
     let size = cut.parts().div_ceil(team.workers.count);

@@ -3,7 +3,7 @@
 ghost use Rattle.std.specs.Prelude.{◌<◌, length, map};
 ghost use Rattle.std.specs.List.{flat_map};
 ghost use Rattle.rh_bytes.specs.Counting.{Emits};
-ghost use Rattle.rh_lists.specs.Lists.{keys_of};
+ghost use Rattle.rh_pieces.specs.Pieces.{keys_in};
 ghost use Rattle.rh_combine_workers.specs.Groups.{edge, parts_of};
 ghost use Rattle.rh_combine_workers.specs.Written.{WritesCombined, WritesParts};
 
@@ -13,7 +13,7 @@ use crate::wanted::Wanted;
 use rh_borders::{CutLists, cut_lists};
 use rh_bytes::{Counted, Progress, WriteFault, write_text};
 use rh_forks::{Team, Workers};
-use rh_lists::KeyList;
+use rh_pieces::KeyList;
 use std::io::Write;
 use std::thread::Threads;
 
@@ -100,7 +100,7 @@ pub fn write_combined<T: Threads + Sync, W: Write, P: Progress>(
     writer: &mut Counted<W>,
     progress: &mut P,
 ) -> Result<u64, CombineFault>
-    ensures { WritesCombined W.contents wanted (map keys_of lists.items) writer.old writer.new
+    ensures { WritesCombined W.contents wanted (map keys_in lists.items) writer.old writer.new
         result }
 {
     let cut = cut_lists(team, lists)?;

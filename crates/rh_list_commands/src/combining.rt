@@ -5,7 +5,7 @@ ghost use Rattle.rh_bytes.specs.Counting.{Emits};
 ghost use Rattle.rh_combine.specs.Combine.{answer};
 ghost use Rattle.rh_key_files.specs.KeyFile.{header, spelling};
 ghost use Rattle.rh_key_files.specs.declared.version.Version.TheVariants.{Second};
-ghost use Rattle.rh_lists.specs.Lists.{keys_of};
+ghost use Rattle.rh_pieces.specs.Pieces.{keys_in};
 ghost use Rattle.rh_numbers.specs.Writing.{number_line, text_of};
 ghost use Rattle.rh_list_commands.specs.Commands.{EndsCommand, WritesText, written};
 ghost use Rattle.rh_list_files.specs.Reading.{IsInside};
@@ -17,8 +17,8 @@ use rh_combine_workers::{CombineFault, Form, Wanted, write_combined};
 use rh_forks::Team;
 use rh_key_files::write_header;
 use rh_list_files::{CommandFault, read_paths};
-use rh_lists::KeyList;
 use rh_numbers::write_numbers;
+use rh_pieces::KeyList;
 use rh_shelf::Lender;
 use std::io::{Read, Write};
 use std::thread::Threads;
@@ -66,7 +66,7 @@ fn write_lists<T: Threads + Sync, W: Write, P: Progress>(
     progress: &mut P,
 ) -> Result<(), CombineFault>
     ensures { WritesText W.contents
-        (written job.now.output (answer job.now.how (map keys_of lists.items)))
+        (written job.now.output (answer job.now.how (map keys_in lists.items)))
         writer.old writer.new result }
 {
     let Job { how, output, .. } = *job;
@@ -85,7 +85,7 @@ fn write_lines<T: Threads + Sync, W: Write, P: Progress>(
     writer: &mut Counted<W>,
     progress: &mut P,
 ) -> Result<(), CombineFault>
-    ensures { WritesText W.contents (text_of (answer how (map keys_of lists.items)))
+    ensures { WritesText W.contents (text_of (answer how (map keys_in lists.items)))
         writer.old writer.new result }
 {
     let wanted = Wanted {
@@ -106,7 +106,7 @@ fn write_counted<T: Threads + Sync, W: Write, P: Progress>(
     writer: &mut Counted<W>,
     progress: &mut P,
 ) -> Result<(), CombineFault>
-    ensures { WritesText W.contents (number_line (length (answer how (map keys_of lists.items))))
+    ensures { WritesText W.contents (number_line (length (answer how (map keys_in lists.items))))
         writer.old writer.new result }
 {
     let wanted = Wanted {
@@ -127,7 +127,7 @@ fn write_packed<T: Threads + Sync, W: Write, P: Progress>(
     writer: &mut Counted<W>,
     progress: &mut P,
 ) -> Result<(), CombineFault>
-    ensures { WritesText W.contents (spelling Second (answer how (map keys_of lists.items)))
+    ensures { WritesText W.contents (spelling Second (answer how (map keys_in lists.items)))
         writer.old writer.new result }
 {
     let wanted = Wanted {

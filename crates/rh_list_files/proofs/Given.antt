@@ -3,12 +3,13 @@ use Rattle.std.proofs.Common.{◌≡◌, ◌∙◌, ℕ, ◌+◌, ◌<◌, arith
 use Rattle.std.proofs.lemmas.List.{get_or-map, length-map, take_more}
 use Rattle.std.proofs.lemmas.Option.{slice_get-map, slice_get_read}
 use Rattle.rh_shelf.specs.Shelf.{Files, Finds}
-use Rattle.rh_lists.specs.Lists.{ReadsList, keys_of, list_said}
+use Rattle.rh_pieces.specs.Pieces.{keys_in}
+use Rattle.rh_lists.specs.Lists.{ReadsList, list_said}
 use Rattle.rh_lists.specs.declared.fault.ListFault.{ListFault}
-use Rattle.rh_lists.specs.declared.list.KeyList.{KeyList}
+use Rattle.rh_pieces.specs.declared.list.KeyList.{KeyList}
 use Rattle.rh_list_files.specs.Lists.{AreNumbers, GiveEach, Gives, GivesBy, is_input}
 
-pub numbers_read : (old new : Option (List ℕ)) (list : KeyList) → ReadsList old new (Ok list) → AreNumbers old new (keys_of list)
+pub numbers_read : (old new : Option (List ℕ)) (list : KeyList) → ReadsList old new (Ok list) → AreNumbers old new (keys_in list)
 numbers_read None new list read = tt
 numbers_read (Some bytes) None list read = read
 numbers_read (Some bytes) (Some rest) list read = read

@@ -11,10 +11,11 @@ use Rattle.rh_shelf.specs.Shelf.{CountsReads, Files, Finds, Lacks, ShelfState}
 use Rattle.rh_shelf.specs.declared.shelf.ShelfFault.{ShelfFault}
 use Rattle.rh_shelf.specs.declared.shelf.ShelfFault.TheVariants.{Missing, Memory, Write}
 use Rattle.rh_key_files.specs.Reading.{BeginsWithLongHeader, TakesGoodKeys, long_header_at}
-use Rattle.rh_lists.specs.Lists.{HasBytes, TakesGoodLines, is_silent, keys_of, list_said}
+use Rattle.rh_pieces.specs.Pieces.{keys_in}
+use Rattle.rh_lists.specs.Lists.{HasBytes, TakesGoodLines, is_silent, list_said}
 use Rattle.rh_lists.specs.declared.fault.ListFault.{ListFault}
 use Rattle.rh_lists.specs.declared.fault.ListFault.TheVariants.{Text, Keys}
-use Rattle.rh_lists.specs.declared.list.KeyList.{KeyList}
+use Rattle.rh_pieces.specs.declared.list.KeyList.{KeyList}
 use Rattle.rh_list_files.specs.declared.fault.FileFault.{FileFault}
 use Rattle.rh_list_files.specs.declared.fault.FileFault.TheVariants.{Shelf, List as InList}
 
@@ -104,7 +105,7 @@ BlamesAt old new path InputFailed fault = BlamesBy (is_input path) old new path 
 -- ---- the list of a file, read
 
 abbrev pub IsReadAt : Option Files → (path : List ℕ) → Result KeyList FileFault → Type 0
-IsReadAt files path (Ok list) = HoldsFile files path (keys_of list)
+IsReadAt files path (Ok list) = HoldsFile files path (keys_in list)
 IsReadAt files path (Err (InList fault)) = (bytes : Option (List ℕ)) × Finds files path bytes × IsFaultOf bytes fault
 IsReadAt files path (Err (Shelf fault)) = Unit {0}
 
@@ -117,7 +118,7 @@ pub record AnswersFile (old new : ShelfState) (path : List ℕ) (r : Result KeyL
 
 -- The same of a path, which may stand for the input that this reader gives.
 pub record AnswersPath {I : Type 0} (remaining : I → Option (List ℕ)) (old new : ShelfState) (path : List ℕ) (before after : Counted I) (r : Result KeyList FileFault) : Type 0 where
-  pub read : MatchResult r (λ list. Gives old.files path (remaining (inner_of before)) (remaining (inner_of after)) (keys_of list)) (HasFault old.files path (remaining (inner_of before)) (remaining (inner_of after)))
+  pub read : MatchResult r (λ list. Gives old.files path (remaining (inner_of before)) (remaining (inner_of after)) (keys_in list)) (HasFault old.files path (remaining (inner_of before)) (remaining (inner_of after)))
   pub blamed : IfErr r (BlamesAt old new path (Rose (failures_of before) (failures_of after)))
   pub fine : OnOk r (new ≡ old)
   pub input_fine : OnOk r (failures_of after ≡ failures_of before)

@@ -1,7 +1,7 @@
 //! The lists are read, one after the other.
 
 ghost use Rattle.std.specs.Prelude.{◌≡◌, IfErr, length, map, string_bytes};
-ghost use Rattle.rh_lists.specs.Lists.{keys_of};
+ghost use Rattle.rh_pieces.specs.Pieces.{keys_in};
 ghost use Rattle.rh_list_files.specs.Lists.{AnswersFile, AnswersPath, tells_failed_read};
 ghost use Rattle.rh_list_files.specs.Reading.{AnswersPaths, IsInside};
 
@@ -9,8 +9,9 @@ use crate::fault::{CommandFault, FileFault};
 use rh_bytes::{Counted, Progress};
 use rh_forks::Team;
 use rh_key_files::KeyFault;
-use rh_lists::{KeyList, ListFault, read_list};
+use rh_lists::{ListFault, read_list};
 use rh_numbers::TextFault;
+use rh_pieces::KeyList;
 use rh_shelf::Lender;
 use std::io::Read;
 use std::thread::Threads;
@@ -77,7 +78,7 @@ pub fn read_paths<T: Threads + Sync, S: Lender, I: Read, P: Progress>(
     input: &mut Counted<I>,
     progress: &mut P,
 ) -> Result<Vec<KeyList>, CommandFault>
-    ensures lists { AnswersPaths (λ lists. map keys_of lists.items) I.remaining
+    ensures lists { AnswersPaths (λ lists. map keys_in lists.items) I.remaining
         (S.state shelf.old) (S.state shelf.new) (map string_bytes paths.now)
         input.old input.new result }
     ensures inside { IfErr result (IsInside (length paths.now)) }

@@ -3,8 +3,9 @@ use Rattle.std.proofs.Common.{◌≡◌, ℕ, true, List, Option, Some, None, Re
 use Rattle.std.proofs.lemmas.Bool.{cases_Bool}
 use Rattle.rh_bytes.proofs.Parsed.{same_value}
 use Rattle.rh_lists.specs.declared.fault.ListFault.{ListFault}
-use Rattle.rh_lists.specs.declared.list.KeyList.{KeyList}
-use Rattle.rh_lists.specs.Lists.{Agree, ReadsList, is_silent, keys_of, list_said}
+use Rattle.rh_pieces.specs.declared.list.KeyList.{KeyList}
+use Rattle.rh_pieces.specs.Pieces.{keys_in}
+use Rattle.rh_lists.specs.Lists.{Agree, ReadsList, is_silent, list_said}
 
 abbrev Told : Type 0
 Told = Result (List ℕ × List ℕ) ListFault
@@ -26,10 +27,10 @@ told_silently bytes keys left fault said read =
 pub agree : (bytes : List ℕ) (left rest : Option (List ℕ)) (first second : Result KeyList ListFault) → ReadsList (Some bytes) left first → ReadsList (Some bytes) rest second → Agree first second
 agree bytes None rest (Ok a) second p q = absurd p
 agree bytes (Some xs) None (Ok a) (Ok b) p q = absurd q
-agree bytes (Some xs) (Some ys) (Ok a) (Ok b) p q = same_value (keys_of a, xs) (keys_of b, ys) (sym p ∙ q)
-agree bytes (Some xs) rest (Ok a) (Err e) p q = told_silently bytes (keys_of a, xs) rest e p q
+agree bytes (Some xs) (Some ys) (Ok a) (Ok b) p q = same_value (keys_in a, xs) (keys_in b, ys) (sym p ∙ q)
+agree bytes (Some xs) rest (Ok a) (Err e) p q = told_silently bytes (keys_in a, xs) rest e p q
 agree bytes left None (Err e) (Ok b) p q = absurd q
-agree bytes left (Some ys) (Err e) (Ok b) p q = told_silently bytes (keys_of b, ys) left e q p
+agree bytes left (Some ys) (Err e) (Ok b) p q = told_silently bytes (keys_in b, ys) left e q p
 agree bytes left rest (Err e) (Err f) p q =
     elim (cases_Bool (is_silent e)) [
       | inl quiet ↦ rw quiet tt

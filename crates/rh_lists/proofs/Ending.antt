@@ -12,8 +12,8 @@ use Rattle.rh_numbers.specs.declared.line_so_far.LineSoFar.TheVariants.{Start}
 use Rattle.rh_numbers.specs.Chunks.{ReadsTo, ended, goes_on, in_line}
 use Rattle.rh_numbers.specs.Reading.{Said, text_said, with_line}
 use Rattle.rh_numbers.proofs.Spelling.{at_end}
-use Rattle.rh_lists.specs.declared.list.KeyList.{KeyList}
-use Rattle.rh_lists.specs.Lists.{keys_of}
+use Rattle.rh_pieces.specs.declared.list.KeyList.{KeyList}
+use Rattle.rh_pieces.specs.Pieces.{keys_in}
 use Rattle.rh_lists.specs.Parts.{IsTold, Refuses}
 
 module _ (bytes keys : List ℕ) (lines : ℕ) (end : ChunkEnd) (read : ReadsTo Start bytes keys lines end) where
@@ -40,7 +40,7 @@ module _ (bytes keys : List ℕ) (lines : ℕ) (end : ChunkEnd) (read : ReadsTo 
   refused_here = subst (λ l. Refuses (text_said l) (in_line (1 + lines) bad)) (append-nil bytes) (refused_on [])
 
 -- one key more, unless there is no memory for it
-pub key_told : (said : Said) (keys : List ℕ) (key : ℕ) (r : Result KeyList TextFault) → IfOk r (λ more. keys_of more ≡ keys ++ (key ∷ [])) → IfErr r (λ fault. fault ≡ texts.Memory)
+pub key_told : (said : Said) (keys : List ℕ) (key : ℕ) (r : Result KeyList TextFault) → IfOk r (λ more. keys_in more ≡ keys ++ (key ∷ [])) → IfErr r (λ fault. fault ≡ texts.Memory)
     → said ≡ (keys ++ (key ∷ []), None) → IsTold said r
 key_told said keys key (Ok more) ok err h = h ∙ ap (λ k. (k, None)) (sym ok)
 key_told said keys key (Err fault) ok err h = subst (Refuses said) (sym err) tt

@@ -10,9 +10,10 @@ use Rattle.rh_numbers.specs.declared.chunk.ChunkEnd.TheVariants.{Open, Bad}
 use Rattle.rh_numbers.specs.declared.fault.TextFault.{TextFault}
 use Rattle.rh_numbers.specs.declared.line_so_far.LineSoFar.TheVariants.{Start}
 use Rattle.rh_numbers.specs.Reading.{text_said}
-use Rattle.rh_lists.specs.declared.list.KeyList.{KeyList}
+use Rattle.rh_pieces.specs.declared.list.KeyList.{KeyList}
 use Rattle.rh_lists.specs.declared.part.Part.{Part}
-use Rattle.rh_lists.specs.Lists.{HasBytes, HasNoFault, TakesNoFault, keys_of}
+use Rattle.rh_pieces.specs.Pieces.{keys_in}
+use Rattle.rh_lists.specs.Lists.{HasBytes, HasNoFault, TakesNoFault}
 use Rattle.rh_lists.specs.Parts.{IsOpen, IsReadTo, IsTold, ReadsText, Refuses}
 
 -- All that was read of what comes behind these bytes, but for the last block, is read to the text so far.
@@ -128,7 +129,7 @@ no_bad_line bytes keys lines (Open so_far) good read = (keys, (1 + lines, so_far
 no_bad_line bytes keys lines (Bad bad) good read = absurd good
 
 pub no_fault : (bytes : List ℕ) (part : Part) → IsOpen part.end → IsReadTo Start bytes part → HasNoFault bytes
-no_fault bytes part good read = no_bad_line bytes (keys_of part.keys) part.lines part.end good read
+no_fault bytes part good read = no_bad_line bytes (keys_in part.keys) part.lines part.end good read
 
 -- the last bytes before a failed read hold none
 abbrev pub TestsLast : Part → (last : List ℕ) → Type 0

@@ -12,8 +12,9 @@ use Rattle.rh_key_files.specs.Reading.{KeysFail, ReadsKeys, keys_behind, long_fi
 use Rattle.rh_numbers.specs.declared.fault.TextFault.{TextFault}
 use Rattle.rh_numbers.specs.Reading.{Said, text_said}
 use Rattle.rh_lists.specs.declared.fault.ListFault.TheVariants.{Text, Keys}
-use Rattle.rh_lists.specs.declared.list.KeyList.{KeyList}
-use Rattle.rh_lists.specs.Lists.{ReadsList, file_or_text, is_silent, is_text_silent, keys_of, list_said, of_file, of_text}
+use Rattle.rh_pieces.specs.declared.list.KeyList.{KeyList}
+use Rattle.rh_pieces.specs.Pieces.{keys_in}
+use Rattle.rh_lists.specs.Lists.{ReadsList, file_or_text, is_silent, is_text_silent, list_said, of_file, of_text}
 use Rattle.rh_lists.specs.Parts.{ReadsText, Refuses}
 
 few_bytes : (bytes : List ℕ) → length bytes < 4 → version_at bytes ≡ Err faults.Short
@@ -30,8 +31,8 @@ refused said fault h = elim (cases_Bool (is_text_silent fault)) [ inl quiet ↦ 
     the_fault (keys, Some other) fault h = let same : other ≡ fault = cc in ap (λ e. Err (Text e)) same
 
 module _ (bytes : List ℕ) (is : list_said bytes ≡ of_text (text_said bytes)) where
-  text_ok : (rest : List ℕ) (keys : KeyList) → rest ≡ [] → text_said bytes ≡ (keys_of keys, None) → ReadsList (Some bytes) (Some rest) (Ok keys)
-  text_ok rest keys none said = is ∙ ap of_text said ∙ ap (λ (l : List ℕ). Ok (keys_of keys, l)) (sym none)
+  text_ok : (rest : List ℕ) (keys : KeyList) → rest ≡ [] → text_said bytes ≡ (keys_in keys, None) → ReadsList (Some bytes) (Some rest) (Ok keys)
+  text_ok rest keys none said = is ∙ ap of_text said ∙ ap (λ (l : List ℕ). Ok (keys_in keys, l)) (sym none)
 
   text_fails : (left : Option (List ℕ)) (fault : TextFault) → Refuses (text_said bytes) fault → ReadsList (Some bytes) left (Err (Text fault))
   text_fails left fault h = subst (Fails is_silent (Text fault)) (sym is) (refused (text_said bytes) fault h)
@@ -44,7 +45,7 @@ module _ (bytes : List ℕ) (few : length bytes < 4) where
   no_file : (xs : List ℕ) → xs ≡ bytes → list_said xs ≡ of_text (text_said xs)
   no_file xs same = ap (file_or_text xs) (few_bytes xs (omega (arith, ap length same, few)))
 
-  pub short_ok : (a b : Option (List ℕ)) (keys : KeyList) → Consumes a b bytes → IsAtEnd b → text_said bytes ≡ (keys_of keys, None) → ReadsList a b (Ok keys)
+  pub short_ok : (a b : Option (List ℕ)) (keys : KeyList) → Consumes a b bytes → IsAtEnd b → text_said bytes ≡ (keys_in keys, None) → ReadsList a b (Ok keys)
   short_ok None b keys taken end said = tt
   short_ok (Some xs) None keys taken end said = absurd taken
   short_ok (Some xs) (Some ys) keys taken end said =
@@ -87,7 +88,7 @@ module _ (four : List ℕ) where
         let begun : version_at xs ≡ Ok (version, ys) = ap version_at taken ∙ some ys in
         ap (file_or_text xs) begun ∙ ap (λ (r : Result (Version × List ℕ) KeyFault). of_file (r >>= (λ b. keys_behind b.0 b.1))) begun
 
-    pub file_ok : {X : Type 0} (a b c : Option (List ℕ)) (view : X → List ℕ) (pieces : X) (keys : KeyList) → Consumes a b four → ReadsKeys b c (keys_behind version) view (Ok pieces) → keys_of keys ≡ view pieces → ReadsList a c (Ok keys)
+    pub file_ok : {X : Type 0} (a b c : Option (List ℕ)) (view : X → List ℕ) (pieces : X) (keys : KeyList) → Consumes a b four → ReadsKeys b c (keys_behind version) view (Ok pieces) → keys_in keys ≡ view pieces → ReadsList a c (Ok keys)
     file_ok None b c view pieces keys taken read same = tt
     file_ok (Some xs) None c view pieces keys taken read same = absurd taken
     file_ok (Some xs) (Some ys) None view pieces keys taken read same = absurd read

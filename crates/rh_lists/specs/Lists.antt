@@ -1,6 +1,5 @@
 -- What a list of numbers says: a text, or a key file of either version, of any length.
 use Rattle.std.specs.Prelude.{◌≡◌, ◌⊎◌, ◌++◌, ℕ, ◌≤◌, Bool, true, false, List, [], length, Option, Some, None, Result, Ok, Err, IsErrOf, OnOk}
-use Rattle.std.specs.List.{flat_map}
 use Rattle.std.specs.Io.KnownBytes.{Consumes}
 use Rattle.rh_bytes.specs.Counting.{Rose, failures_of, inner_of}
 use Rattle.rh_bytes.specs.Input as input
@@ -17,11 +16,8 @@ use Rattle.rh_numbers.specs.declared.limits.TheConstants.{MAX_BYTES}
 use Rattle.rh_numbers.specs.Reading.{Said, SayOnly, text_said}
 use Rattle.rh_lists.specs.declared.fault.ListFault.{ListFault}
 use Rattle.rh_lists.specs.declared.fault.ListFault.TheVariants.{Text, Keys}
-use Rattle.rh_lists.specs.declared.list.KeyList.{KeyList}
-
--- the pieces one after the other
-abbrev pub keys_of : KeyList → List ℕ
-keys_of list = flat_map (λ piece. piece.items) list.pieces.items
+use Rattle.rh_pieces.specs.declared.list.KeyList.{KeyList}
+use Rattle.rh_pieces.specs.Pieces.{keys_in}
 
 -- ---- bytes
 
@@ -64,7 +60,7 @@ is_silent (Keys fault) = files.is_silent fault
 
 -- Where the bytes are known, they were read to the keys of the list that they are, and none is left; or this is their first fault.
 abbrev pub ReadsList : Option (List ℕ) → Option (List ℕ) → Result KeyList ListFault → Type 0
-ReadsList old new r = input.Reads is_silent old new list_said keys_of r
+ReadsList old new r = input.Reads is_silent old new list_said keys_in r
 
 -- so many bytes or more, if they are known
 abbrev pub HasBytes : ℕ → Option (List ℕ) → Type 0
@@ -101,7 +97,7 @@ pub record AnswersList {R : Type 0} (remaining : R → Option (List ℕ)) (old n
 
 -- The same keys, or the same fault, unless one of the two says nothing of the bytes.
 abbrev pub Agree : Result KeyList ListFault → Result KeyList ListFault → Type 0
-Agree (Ok first) (Ok second) = keys_of first ≡ keys_of second
+Agree (Ok first) (Ok second) = keys_in first ≡ keys_in second
 Agree (Ok first) (Err fault) = is_silent fault ≡ true
 Agree (Err fault) (Ok second) = is_silent fault ≡ true
 Agree (Err fault) (Err other) = input.Unless (is_silent fault) (input.Unless (is_silent other) (fault ≡ other))

@@ -12,13 +12,14 @@ use Rattle.rh_numbers.specs.declared.line_so_far.LineSoFar.TheVariants.{Start}
 use Rattle.rh_numbers.specs.declared.limits.TheConstants.{MAX_BYTES}
 use Rattle.rh_numbers.specs.Chunks.{EndsLine, ReadsTo, last_of}
 use Rattle.rh_numbers.specs.Reading.{Said, text_said}
-use Rattle.rh_lists.specs.declared.list.KeyList.{KeyList}
+use Rattle.rh_pieces.specs.declared.list.KeyList.{KeyList}
 use Rattle.rh_lists.specs.declared.part.Part.{Part}
-use Rattle.rh_lists.specs.Lists.{HasBytes, HasNoFault, TakesNoFault, is_text_silent, keys_of}
+use Rattle.rh_pieces.specs.Pieces.{keys_in}
+use Rattle.rh_lists.specs.Lists.{HasBytes, HasNoFault, TakesNoFault, is_text_silent}
 
 -- Where the line has said this so far, these bytes are read to the part, whatever stands before them and comes after them.
 abbrev pub IsReadTo : LineSoFar → List ℕ → Part → Type 0
-IsReadTo so_far bytes part = ReadsTo so_far bytes (keys_of part.keys) part.lines part.end
+IsReadTo so_far bytes part = ReadsTo so_far bytes (keys_in part.keys) part.lines part.end
 
 -- so a worker reads them: there are no more lines than bytes, and where these end a line the part does
 pub record IsPartOf (so_far : LineSoFar) (bytes : List ℕ) (part : Part) : Type 0 where
@@ -45,7 +46,7 @@ Refuses said fault = Unless (is_text_silent fault) (said.1 ≡ Some fault)
 
 -- What a text says is told: its keys, or its first fault.
 abbrev pub IsTold : Said → Result KeyList TextFault → Type 0
-IsTold said (Ok keys) = said ≡ (keys_of keys, None)
+IsTold said (Ok keys) = said ≡ (keys_in keys, None)
 IsTold said (Err fault) = Refuses said fault
 
 -- Where the bytes are known, the text of these bytes and all of them is told; those of a text that is too long are many.
@@ -53,7 +54,7 @@ abbrev pub ReadsText : (begun : List ℕ) → Option (List ℕ) → Option (List
 ReadsText begun None new r = Unit {0}
 ReadsText begun (Some bytes) new (Err fault) = Refuses (text_said (begun ++ bytes)) fault
 ReadsText begun (Some bytes) None (Ok keys) = ⊥
-ReadsText begun (Some bytes) (Some rest) (Ok keys) = (text_said (begun ++ bytes) ≡ (keys_of keys, None)) × (rest ≡ [])
+ReadsText begun (Some bytes) (Some rest) (Ok keys) = (text_said (begun ++ bytes) ≡ (keys_in keys, None)) × (rest ≡ [])
 
 -- What is answered of a text that begins so, and whose rest this reader gives. A failed read is told only where one failed, behind good
 -- lines, and that a text is too long only of so many bytes.

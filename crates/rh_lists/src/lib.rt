@@ -20,8 +20,6 @@
 //!   before its fourth byte a list is not known to be a text. Want of memory for a key file
 //!   comes only behind a header that can be read, and behind good keys.
 //! - `lists_agree`: what two readings of the same bytes answer is the same, but for these.
-//! - `KeyList`: the keys of a list are those of its pieces, one piece after the other; all are
-//!   keys.
 //!
 //! Memory: 8 bytes for each key and 24 for each piece, of which a text has one for each worker and
 //! block; twice as much for the pieces that are being read; and two blocks of 16 MB.
@@ -34,7 +32,6 @@ mod ahead;
 mod fault;
 mod laws;
 mod limits;
-mod list;
 mod part;
 mod reading;
 mod text;
@@ -43,5 +40,4 @@ mod workers;
 pub use fault::ListFault;
 pub use laws::lists_agree;
 pub use limits::BLOCK_BYTES;
-pub use list::KeyList;
 pub use reading::{read_list, read_list_in_blocks};

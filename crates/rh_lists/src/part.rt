@@ -7,11 +7,12 @@ ghost use Rattle.rh_numbers.specs.Chunks.{EndsLine};
 ghost use Rattle.rh_numbers.specs.Reading.{text_said};
 ghost use Rattle.rh_numbers.specs.declared.line_so_far.LineSoFar.{LineSoFar};
 ghost use Rattle.rh_numbers.specs.declared.line_so_far.LineSoFar.TheVariants.{Start};
-ghost use Rattle.rh_lists.specs.Lists.{OfHeldBytes, keys_of};
+ghost use Rattle.rh_pieces.specs.Pieces.{keys_in};
+ghost use Rattle.rh_lists.specs.Lists.{OfHeldBytes};
 ghost use Rattle.rh_lists.specs.Parts.{IsOpen, IsPartOf, IsReadTo, IsTold, Refuses, so_far_of};
 
-use crate::list::KeyList;
 use rh_numbers::{Chunk, ChunkEnd, LineSoFar, TextFault, read_chunk};
+use rh_pieces::KeyList;
 use std::alloc::{AllocError, Global};
 
 /// What a part of a text says, up to its first bad line.
@@ -139,7 +140,7 @@ impl Part {
 /// The list with one key more at its end.
 fn with_key(alloc: Global, keys: KeyList, key: u64) -> Result<KeyList, TextFault>
     requires { IsKey key }
-    ensures keys { IfOk result (λ more. keys_of more ≡ keys_of keys ++ key ∷ []) }
+    ensures keys { IfOk result (λ more. keys_in more ≡ keys_in keys ++ key ∷ []) }
     ensures memory { IfErr result (λ fault. fault ≡ TextFault.Memory) }
 {
     let mut more = keys;

@@ -5,12 +5,12 @@ ghost use Rattle.rh_lists.specs.Lists.{AnswersList};
 
 use crate::fault::ListFault;
 use crate::limits::BLOCK_BYTES;
-use crate::list::KeyList;
 use crate::text::{read_short_text, read_text};
 use rh_bytes::{Counted, Filled, Progress, fill_front};
 use rh_forks::Team;
 use rh_key_files::{Version, read_pieces};
 use rh_numbers::TextFault;
+use rh_pieces::KeyList;
 use std::io::Read;
 use std::thread::Threads;
 

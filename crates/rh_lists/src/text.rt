@@ -9,12 +9,12 @@ ghost use Rattle.rh_lists.specs.declared.limits.TheConstants.{BLOCK_BYTES, FIRST
 
 use crate::ahead::read_ahead;
 use crate::limits::{BLOCK_BYTES, FIRST_BYTES};
-use crate::list::KeyList;
 use crate::part::Part;
 use crate::workers::read_part;
 use rh_bytes::{Counted, Filled, Progress, fill_front};
 use rh_forks::Team;
 use rh_numbers::{LineSoFar, MAX_BYTES, TextFault};
+use rh_pieces::KeyList;
 use std::alloc::Global;
 use std::io::Read;
 use std::mem;

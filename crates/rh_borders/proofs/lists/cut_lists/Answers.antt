@@ -3,7 +3,7 @@ use Rattle.std.specs.Prelude.{map}
 use Rattle.std.proofs.lemmas.List.{map-id}
 use Rattle.std.proofs.lemmas.Iterator.Adapters.{YieldsList-from_vec}
 use Rattle.std.proofs.lemmas.Iterator.Consumers.{YieldsList-end}
-use Rattle.rh_lists.specs.Lists.{keys_of}
+use Rattle.rh_pieces.specs.Pieces.{keys_in}
 use Rattle.rh_borders.specs.Borders.{AreCut, IsCut}
 use Rattle.rh_borders.proofs.CutLemmas.{cut_more, none_cut}
 use Rattle.rh_borders.proofs.lists.cut_lists.Goals as goal
@@ -15,12 +15,12 @@ pub loop-list-preserved : goal.loop-list-preserved
 loop-list-preserved g c =
     let borders = c.in_ok-borders.borders.values.items in
     let pieces = c.in_ok-pieces.pieces.items in
-    cut_more keys_of (λ v. v.items) borders c.loop-list.yielded c.in-Some.list c.loop-list.cut.items c.push.new.self.items c.in_ok-pieces.pieces
+    cut_more keys_in (λ v. v.items) borders c.loop-list.yielded c.in-Some.list c.loop-list.cut.items c.push.new.self.items c.in_ok-pieces.pieces
     c.in_ok-push.ensures.items c.loop-list.invariant
     (subst (λ keys. IsCut borders keys pieces) c.pieces.ensures.keys c.in_ok-pieces.ensures)
 
 pub invariant_of-result : goal.invariant_of-result
-invariant_of-result g c = record { of_lists = ∣ (map keys_of c.loop-list.yielded, c.loop-list.invariant) ∣₁ }
+invariant_of-result g c = record { of_lists = ∣ (map keys_in c.loop-list.yielded, c.loop-list.invariant) ∣₁ }
 
 pub returns : goal.returns
 returns g c =
@@ -29,5 +29,5 @@ returns g c =
     let all : c.loop-list.yielded ≡ c.args.lists.items = sym (map-id c.loop-list.yielded) ∙ end.0 in
     record {
       borders = c.in_ok-borders.borders.are;
-      parts = subst (λ ls. AreCut c.in_ok-borders.borders.values.items (map keys_of ls) (map (λ v. v.items) c.loop-list.cut.items)) all c.loop-list.invariant;
+      parts = subst (λ ls. AreCut c.in_ok-borders.borders.values.items (map keys_in ls) (map (λ v. v.items) c.loop-list.cut.items)) all c.loop-list.invariant;
     }

@@ -4,14 +4,14 @@ use Rattle.std.specs.List.{flat_map}
 use Rattle.std.proofs.Math.Nat.{mul_comm}
 use Rattle.std.proofs.lemmas.Grind.{div_ceil_times}
 use Rattle.std.proofs.lemmas.Result.{IfOk-weaker}
-use Rattle.rh_lists.specs.Lists.{keys_of}
+use Rattle.rh_pieces.specs.Pieces.{keys_in}
 use Rattle.rh_combine_workers.specs.Groups.{parts_of}
 use Rattle.rh_combine_workers.proofs.GroupLemmas.{all_parts, all_shares, keys_of_lists}
 use Rattle.rh_combine_workers.proofs.numbers.combine.Goals as goal
 
 pub returns : goal.returns
 returns g c =
-    let lists = map keys_of c.args.lists.items in
+    let lists = map keys_in c.args.lists.items in
     let cut = c.in_ok-cut.cut in
     let are = c.in_ok-cut.ensures in
     let team = c.args.team.now in

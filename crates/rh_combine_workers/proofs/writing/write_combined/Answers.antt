@@ -4,7 +4,7 @@ use Rattle.std.proofs.lemmas.Result.{IfOk-weaker}
 use Rattle.rh_bytes.specs.Counting.{Writes, inner_of}
 use Rattle.rh_combine.proofs.RangeLemmas.{answer-within}
 use Rattle.rh_layout.specs.declared.limits.TheConstants.{MAX_KEY}
-use Rattle.rh_lists.specs.Lists.{keys_of}
+use Rattle.rh_pieces.specs.Pieces.{keys_in}
 use Rattle.rh_combine_workers.specs.Spelled.{spelled}
 use Rattle.rh_combine_workers.proofs.GroupLemmas.{all_parts, keys_of_lists}
 use Rattle.rh_combine_workers.proofs.writing.write_combined.Goals as goal
@@ -12,7 +12,7 @@ use Rattle.rh_combine_workers.proofs.writing.write_combined.Goals as goal
 pub returns : goal.returns
 returns g c =
     let wanted = c.args.wanted in
-    let lists = map keys_of c.args.lists.items in
+    let lists = map keys_in c.args.lists.items in
     let are = c.in_ok-cut.ensures in
     let all = keys_of_lists c.args.lists.items in
     let whole = all_parts c.in_ok-cut.cut.borders.values.items are.borders wanted.how lists all in

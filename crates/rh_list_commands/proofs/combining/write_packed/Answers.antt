@@ -5,13 +5,13 @@ use Rattle.rh_combine_workers.specs.Spelled.{spelled}
 use Rattle.rh_combine_workers.specs.declared.form.Form.TheVariants.{Keys}
 use Rattle.rh_key_files.specs.KeyFile.{header, spelling}
 use Rattle.rh_key_files.specs.declared.version.Version.TheVariants.{Second}
-use Rattle.rh_lists.specs.Lists.{keys_of}
+use Rattle.rh_pieces.specs.Pieces.{keys_in}
 use Rattle.rh_list_commands.proofs.Written.{packed}
 use Rattle.rh_list_commands.proofs.combining.write_packed.Goals as goal
 
 pub returns : goal.returns
 returns g c =
-    let numbers = answer c.args.how (map keys_of c.args.lists.items) in
+    let numbers = answer c.args.how (map keys_in c.args.lists.items) in
     let bytes : c.deref.result.now ≡ spelled Keys numbers = search rules in
     let file : header Second c.in-Ok.count ++ c.deref.result.now ≡ spelling Second numbers = packed numbers c.deref.result.now c.in-Ok.count c.in-Ok.ensures.written.count bytes in
     record {

@@ -1,7 +1,7 @@
 use Rattle.std.proofs.Common.{◌∙◌, ◌<◌, length, ◌++◌, ◌∷◌, [], ap, map, rules, string_bytes, subst, sym, take}
 use Rattle.std.proofs.lemmas.List.{map-append}
 use Rattle.rh_bytes.specs.Counting.{Rose, failures_of, inner_of}
-use Rattle.rh_lists.specs.Lists.{keys_of}
+use Rattle.rh_pieces.specs.Pieces.{keys_in}
 use Rattle.rh_list_files.specs.Lists.{BlamesAt, GiveEach, Gives, HasFault}
 use Rattle.rh_list_files.proofs.Given.{inside_too, next_path, one_more, path_at}
 use Rattle.rh_list_files.proofs.reading.read_paths.Goals as goal
@@ -15,13 +15,13 @@ loop-index-preserved g c =
     let mid = g.I.Read.remaining (inner_of c.loop-index.input) in
     let end = g.I.Read.remaining (inner_of c.read_path.new.input) in
     let path = string_bytes c.index-paths-index.result in
-    let before = map keys_of c.loop-index.lists.items in
-    let numbers = keys_of c.in-Ok.list in
+    let before = map keys_in c.loop-index.lists.items in
+    let numbers = keys_in c.in-Ok.list in
     let gives = subst (λ s. Gives s.files path mid end numbers) c.loop-index.invariant.shelf_fine (subst (λ p. Gives (g.S.Lender.state c.loop-index.shelf).files p mid end numbers) c.deref.ensures c.in-Ok.ensures.read) in
     let more = one_more files (take index paths) path start mid end before numbers c.loop-index.invariant.given gives in
-    let lists = ap (map keys_of) c.in-Ok-push.ensures.items ∙ map-append keys_of c.loop-index.lists.items (c.in-Ok.list ∷ []) in
+    let lists = ap (map keys_in) c.in-Ok-push.ensures.items ∙ map-append keys_in c.loop-index.lists.items (c.in-Ok.list ∷ []) in
     record {
-      given = subst (λ p. GiveEach files p start end (map keys_of c.push.new.self.items)) (sym (next_path string_bytes c.args.paths.now index c.index-paths-index.result (search rules) c.index-paths-index.is))
+      given = subst (λ p. GiveEach files p start end (map keys_in c.push.new.self.items)) (sym (next_path string_bytes c.args.paths.now index c.index-paths-index.result (search rules) c.index-paths-index.is))
           (subst (λ l. GiveEach files (take index paths ++ path ∷ []) start end l) (sym lists) more);
       shelf_fine = search rules;
       input_fine = search rules;
@@ -37,8 +37,8 @@ returns-in_default-clause-lists g c =
     let mid = g.I.Read.remaining (inner_of c.loop-index.input) in
     let end = g.I.Read.remaining (inner_of c.read_path.new.input) in
     let path = string_bytes c.index-paths-index.result in
-    let before = map keys_of c.loop-index.lists.items in
-    let numbers = keys_of c.in-Ok.list in
+    let before = map keys_in c.loop-index.lists.items in
+    let numbers = keys_in c.in-Ok.list in
     let gives = subst (λ s. Gives s.files path mid end numbers) c.loop-index.invariant.shelf_fine (subst (λ p. Gives (g.S.Lender.state c.loop-index.shelf).files p mid end numbers) c.deref.ensures c.in-Ok.ensures.read) in
     let more = one_more files (take index paths) path start mid end before numbers c.loop-index.invariant.given gives in
     let inside : index < length c.args.paths.now = search rules in

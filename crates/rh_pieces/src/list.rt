@@ -16,11 +16,11 @@ impl KeyList {
     ghost use Rattle.std.specs.Prelude.{◌≡◌, ◌++◌, [], All, OnOk};
     ghost use Rattle.std.specs.List.{flat_map};
     ghost use Rattle.rh_layout.specs.Key.{IsKey};
-    ghost use Rattle.rh_lists.specs.Lists.{keys_of};
+    ghost use Rattle.rh_pieces.specs.Pieces.{keys_in};
 
     /// The list of no key.
-    pub(crate) fn new(alloc: Global) -> KeyList
-        ensures { keys_of result ≡ [] }
+    pub fn new(alloc: Global) -> KeyList
+        ensures { keys_in result ≡ [] }
     {
         KeyList {
             pieces: Vec::new(alloc),
@@ -30,23 +30,23 @@ impl KeyList {
     /// The list of these pieces.
     pub fn of(pieces: Vec<Vec<u64>>) -> KeyList
         requires { All (λ piece. All IsKey piece.items) pieces.items }
-        ensures { keys_of result ≡ flat_map (λ piece. piece.items) pieces.items }
+        ensures { keys_in result ≡ flat_map (λ piece. piece.items) pieces.items }
     {
         KeyList { pieces }
     }
 
     /// Adds a piece at the end.
-    pub(crate) fn push(&mut self, piece: Vec<u64>) -> Result<(), AllocError>
+    pub fn push(&mut self, piece: Vec<u64>) -> Result<(), AllocError>
         requires { All IsKey piece.items }
-        ensures { OnOk result (keys_of self.new ≡ keys_of self.old ++ piece.items) }
+        ensures { OnOk result (keys_in self.new ≡ keys_in self.old ++ piece.items) }
     {
         self.pieces.push(piece)?;
         Ok(())
     }
 
     /// Adds the other list at the end.
-    pub(crate) fn append(&mut self, other: KeyList) -> Result<(), AllocError>
-        ensures { OnOk result (keys_of self.new ≡ keys_of self.old ++ keys_of other) }
+    pub fn append(&mut self, other: KeyList) -> Result<(), AllocError>
+        ensures { OnOk result (keys_in self.new ≡ keys_in self.old ++ keys_in other) }
     {
         let KeyList { mut pieces } = other;
         self.pieces.append(&mut pieces)?;
@@ -55,7 +55,7 @@ impl KeyList {
 
     /// The pieces of the list, one after the other.
     pub fn pieces(&self) -> &[Vec<u64>]
-        ensures keys { flat_map (λ piece. piece.items) result.now ≡ keys_of self.now }
+        ensures keys { flat_map (λ piece. piece.items) result.now ≡ keys_in self.now }
         ensures in_range { All (λ piece. All IsKey piece.items) result.now }
     {
         &self.pieces
