@@ -10,7 +10,7 @@ use Rattle.rh_world.specs.Facts.{Fact}
 use Rattle.rh_world.specs.Facts.Fact.{decided, known, may_demote, may_promote, met, over, stale}
 use Rattle.rh_world.specs.Sides.{Debt, Side, note_side}
 use Rattle.rh_world.specs.Moves.{control_noted, mark_noted}
-use Rattle.rh_world.proofs.Tests.{eqb_not, eqb_yes}
+use Rattle.rh_world.proofs.Tests.{by_cond, eqb_not, eqb_yes}
 use Rattle.rh_words.specs.View.{OwnDesc, View}
 use Rattle.rh_words.specs.Words.{control_of, control_word_of, read_control, serial_in, state_of, without_entry}
 use Rattle.rh_words.specs.Steps.{IsKnown, control_read, decided_word, stale_noted, is_known, mark_control_read, tells_opened}
@@ -419,6 +419,9 @@ module _ (v : View) (d : Ref) (k : State) (over_k : IsOver k) (state : IsState k
 
   has_state : IsState (state_of (control_of k))
   has_state = subst IsState (sym (state_back k)) state
+
+  pub is_word : IsControlWord word
+  is_word = by_cond IsControlWord (eqb found (control_word_of d.number undecided)) _ found (λ swap. record { number = d.number; control = control_of k; state = has_state; is = refl }) (λ no. tells.word_is)
 
   -- it was swapped, or it was decided before, or is stale
   either : (word ≡ control_word_of d.number (control_of k)) × (serial_in found ≡ d.number) ⊎ (word ≡ found) × (found ≢ control_word_of d.number undecided)

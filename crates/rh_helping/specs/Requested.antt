@@ -11,7 +11,7 @@ use Rattle.rh_words.specs.View.{OwnDesc, View}
 use Rattle.rh_words.specs.Words.{control_of, desc_number, ref_of}
 use Rattle.rh_words.specs.Steps.{Step, decided_word, noted}
 use Rattle.rh_rule.specs.Sound.{Finds}
-use Rattle.rh_steps.specs.Relies.{Knows}
+use Rattle.rh_steps.specs.Relies.{Knows, Trusts}
 use Rattle.rh_helping.specs.declared.goal.Task.{Task}
 use Rattle.rh_steps.specs.Own.{KnowsOwn, OwesNothing}
 use Rattle.rh_helping.specs.Goal.{KnowsTask, released_value}
@@ -67,8 +67,9 @@ pub record SettledFrom (z : Shape) (v : View) (s : Settles) (word : ℕ) (next :
 abbrev pub FollowsSettling : Settles → (word : ℕ) → Type 0
 FollowsSettling s word = (z : Shape) × ((v : View) × ((next : View) × SettledFrom z v s word next))
 
--- of a worker that went about a descriptor
-pub record Follows (z : Shape) (opens : Option OwnDesc) (w : Work) (word : ℕ) (next : View) : Type 0 where
+-- of a worker that went about a descriptor, and is so of the words too
+pub record Follows {T : Type 0} (shows : Shape → T → View → Type 0) (z : Shape) (opens : Option OwnDesc) (w : Work) (word : ℕ) (t : T) (next : View) : Type 0 where
+  pub trusts : Trusts shows z t next
   pub before : View
   pub knows : Knows z before
   pub own : KnowsOwn before opens

@@ -3,13 +3,13 @@
 
 ghost use Rattle.rh_helping.specs.declared.machine.At.TheVariants as stage;
 ghost use Rattle.std.specs.Prelude.{◌≡◌};
-ghost use Rattle.rh_helping.specs.Requested.{FollowsDecide};
 ghost use Rattle.rh_helping.specs.Goal.{opened_by};
 ghost use Rattle.rh_helping.specs.Machine.{led};
 ghost use Rattle.rh_helping.specs.Next.{Work};
-ghost use Rattle.rh_helping.specs.Work.{Leads, MayEnd, desc_of};
+ghost use Rattle.rh_helping.specs.Requested.{FollowsDecide};
+ghost use Rattle.rh_helping.specs.Stepping.{ComesTo, HasGoneOn, MayGoOn};
+ghost use Rattle.rh_helping.specs.Work.{desc_of};
 ghost use Rattle.rh_steps.specs.Relies.{Trusts};
-ghost use Rattle.rh_rule.specs.Sound.{IsControlWord};
 
 use crate::goal::{OpenDesc, Task};
 use crate::machine::{At, Machine, Progress};
@@ -19,40 +19,13 @@ use rh_steps::Steps;
 use rh_tagword::State;
 use rh_words::{Reading, Request, Shape, Side, decided_word};
 
-pub(crate) struct Fail;
-
-impl<T: Steps> Stage<T> for Fail {
-    ghost at = { stage.Fail };
-
-    #[inline(always)]
-    fn request(machine: &Machine, side: &Side) -> Request {
-        Request::Decide {
-            desc: machine.task.desc,
-            state: own_failure(side),
-        }
-    }
-
-    #[inline(always)]
-    fn after(
-        machine: &mut Machine,
-        shape: &Shape,
-        table: &mut T,
-        side: &Side,
-        opens: Option<OpenDesc<'_>>,
-        found: u64,
-    ) -> Progress {
-        let failed = decided_word(machine.task.desc, own_failure(side), found);
-        machine.decided(shape, table, side, opens, failed)
-    }
-}
-
 pub(crate) struct Succeed;
 
 impl<T: Steps> Stage<T> for Succeed {
     ghost at = { stage.Succeed };
 
     #[inline(always)]
-    fn request(machine: &Machine, _side: &Side) -> Request {
+    fn request(machine: &Machine) -> Request {
         Request::Decide {
             desc: machine.task.desc,
             state: State::Succeeded,
@@ -73,17 +46,31 @@ impl<T: Steps> Stage<T> for Succeed {
     }
 }
 
-/// What a worker decides that finds an entry changed.
-#[inline(always)]
-fn own_failure(side: &Side) -> State
-    ensures { result ≡ State.Failed side.now.worker }
-{
-    State::Failed {
-        decider: side.worker as u64,
-    }
-}
-
 impl Machine {
+    /// Decides that the task failed. It is no `Stage`: a failure names the worker that decides it.
+    #[inline(always)]
+    pub(crate) fn fail<T: Steps>(
+        &mut self,
+        shape: &Shape,
+        table: &mut T,
+        side: &mut Side,
+        opens: Option<OpenDesc<'_>>,
+    ) -> Progress
+        requires { MayGoOn T.shows T.serves shape.now (opened_by opens) (Work.Fail self.old.task)
+            table.old side.old.known.view }
+        ensures { HasGoneOn T.shows T.made shape.now (opened_by opens.entry)
+            (Work.Fail self.old.task) table.old side.old.known.view (led result self.new)
+            table.new side.new.known.view }
+    {
+        let desc = self.task.desc;
+        let state = State::Failed {
+            decider: side.worker as u64,
+        };
+        let found = table.make(shape, side, Request::Decide { desc, state });
+        let failed = decided_word(desc, state, found);
+        self.decided(shape, table, side, opens, failed)
+    }
+
     /// After a Decide of the task, which left this control: releases it, however it was decided, or
     /// leaves it where it is stale.
     #[inline(always)]
@@ -98,12 +85,9 @@ impl Machine {
         requires trusts { Trusts T.shows shape.now table.old side.now.known.view }
         requires follows { FollowsDecide shape.now (opened_by opens) self.old.task control
             side.now.known.view }
-        requires control { IsControlWord control }
-        ensures same { table.new ≡ table.old }
-        ensures leads { Leads shape.now side.now.known.view (opened_by opens.entry)
-            (led result self.new) }
-        ensures ends { (w : Work) → desc_of w ≡ self.old.task.desc →
-            MayEnd side.now.known.view w (led result self.new) }
+        ensures { (w : Work) → desc_of w ≡ self.old.task.desc →
+            ComesTo shape.now (opened_by opens.entry) w table.old side.now.known.view
+            (led result self.new) table.new }
     {
         match state_told(self.task.desc, control) {
             Some(state) => {
@@ -121,7 +105,7 @@ impl<T: Steps> Stage<T> for Withdraw {
     ghost at = { stage.Withdraw };
 
     #[inline(always)]
-    fn request(machine: &Machine, _side: &Side) -> Request {
+    fn request(machine: &Machine) -> Request {
         Request::Decide {
             desc: machine.task.desc,
             state: State::Withdrawn,
@@ -154,7 +138,7 @@ impl<T: Steps> Stage<T> for ReadReason {
     ghost at = { stage.ReadReason };
 
     #[inline(always)]
-    fn request(machine: &Machine, _side: &Side) -> Request {
+    fn request(machine: &Machine) -> Request {
         Request::Read(Reading::Reason {
             desc: machine.task.desc,
             decider: machine.decider,

@@ -8,7 +8,7 @@ ghost use Rattle.rh_helping.specs.Goal.{HasReason, IsMet, KnowsGoal, opened_by};
 ghost use Rattle.rh_helping.specs.Machine.{goal_of, led};
 ghost use Rattle.rh_helping.specs.Next.{Work};
 ghost use Rattle.rh_helping.specs.Work.{Begins, HasFailedOwn, IsNextTask, Leads, MayEnd, Owes, ReleasesLast, desc_of, failed_by};
-ghost use Rattle.rh_steps.specs.Relies.{Trusts};
+ghost use Rattle.rh_helping.specs.Stepping.{ComesTo, IsBetween};
 ghost use Rattle.rh_world.specs.World.{In};
 ghost use Rattle.rh_world.specs.Facts.Fact.{stale};
 
@@ -31,14 +31,12 @@ impl Machine {
         opens: Option<OpenDesc<'_>>,
         state: State,
     ) -> Progress
-        requires trusts { Trusts T.shows shape.now table.old side.now.known.view }
-        requires own { KnowsOwn side.now.known.view (opened_by opens) }
+        requires between { IsBetween T.shows shape.now (opened_by opens) table.old
+            side.now.known.view }
         requires owes { OwesNothing side.now.known.view }
         requires met { IsMet side.now.known.view (ref_of self.old.task.desc) state 0 }
-        ensures same { table.new ≡ table.old }
-        ensures leads { Leads shape.now side.now.known.view (opened_by opens.entry)
-            (led result self.new) }
-        ensures ends { (w : Work) → MayEnd side.now.known.view w (led result self.new) }
+        ensures { (w : Work) → ComesTo shape.now (opened_by opens.entry) w table.old
+            side.now.known.view (led result self.new) table.new }
     {
         let desc = self.task.desc;
         if desc.worker != side.worker {
@@ -61,13 +59,11 @@ impl Machine {
         side: &Side,
         opens: Option<OpenDesc<'_>>,
     ) -> Progress
-        requires trusts { Trusts T.shows shape.now table.old side.now.known.view }
-        requires own { KnowsOwn side.now.known.view (opened_by opens) }
+        requires between { IsBetween T.shows shape.now (opened_by opens) table.old
+            side.now.known.view }
         requires begins { Begins side.now.known.view self.old.task }
-        ensures same { table.new ≡ table.old }
-        ensures leads { Leads shape.now side.now.known.view (opened_by opens.entry)
-            (led result self.new) }
-        ensures ends { (w : Work) → MayEnd side.now.known.view w (led result self.new) }
+        ensures { (w : Work) → ComesTo shape.now (opened_by opens.entry) w table.old
+            side.now.known.view (led result self.new) table.new }
     {
         match self.failed_own(side, opens) {
             Some(decider) => {
@@ -112,13 +108,11 @@ impl Machine {
         side: &Side,
         opens: Option<OpenDesc<'_>>,
     ) -> Progress
-        requires trusts { Trusts T.shows shape.now table.old side.now.known.view }
-        requires own { KnowsOwn side.now.known.view (opened_by opens) }
+        requires between { IsBetween T.shows shape.now (opened_by opens) table.old
+            side.now.known.view }
         requires next { IsNextTask side.now.known.view self.old.task }
-        ensures same { table.new ≡ table.old }
-        ensures leads { Leads shape.now side.now.known.view (opened_by opens.entry)
-            (led result self.new) }
-        ensures ends { (w : Work) → MayEnd side.now.known.view w (led result self.new) }
+        ensures { (w : Work) → ComesTo shape.now (opened_by opens.entry) w table.old
+            side.now.known.view (led result self.new) table.new }
     {
         let task = self.task;
         if task.entry == task.size {

@@ -18,7 +18,7 @@ impl<T: Steps> Stage<T> for Place {
     ghost at = { stage.Place };
 
     #[inline(always)]
-    fn request(machine: &Machine, _side: &Side) -> Request {
+    fn request(machine: &Machine) -> Request {
         Request::Place {
             piece: machine.piece(),
             old: machine.change.old,
@@ -73,7 +73,7 @@ impl<T: Steps> Stage<T> for Settle {
     ghost at = { stage.Settle };
 
     #[inline(always)]
-    fn request(machine: &Machine, _side: &Side) -> Request {
+    fn request(machine: &Machine) -> Request {
         machine.settling.request()
     }
 
@@ -101,7 +101,7 @@ impl<T: Steps> Stage<T> for MarkControl {
     ghost at = { stage.MarkControl };
 
     #[inline(always)]
-    fn request(machine: &Machine, _side: &Side) -> Request {
+    fn request(machine: &Machine) -> Request {
         Request::Read(Reading::MarkControl {
             mark: machine.mark,
             cell: machine.change.cell,
@@ -142,7 +142,7 @@ impl<T: Steps> Stage<T> for Promote {
     ghost at = { stage.Promote };
 
     #[inline(always)]
-    fn request(machine: &Machine, _side: &Side) -> Request {
+    fn request(machine: &Machine) -> Request {
         Request::Settle {
             mark: machine.mark,
             piece: machine.piece(),
@@ -171,7 +171,7 @@ impl<T: Steps> Stage<T> for Demote {
     ghost at = { stage.Demote };
 
     #[inline(always)]
-    fn request(machine: &Machine, _side: &Side) -> Request {
+    fn request(machine: &Machine) -> Request {
         Request::Settle {
             mark: machine.mark,
             piece: machine.piece(),
@@ -210,7 +210,7 @@ impl<T: Steps> Stage<T> for Recheck {
     ghost at = { stage.Recheck };
 
     #[inline(always)]
-    fn request(machine: &Machine, _side: &Side) -> Request {
+    fn request(machine: &Machine) -> Request {
         Request::Read(Reading::Control(machine.task.desc))
     }
 

@@ -1,16 +1,12 @@
 //! Reading a cell until it holds a value: a mark that stands there is settled first, and a
 //! descriptor helped to its end.
 
-ghost use Rattle.std.specs.Prelude.{◌≡◌, ◌<◌, None};
-ghost use Rattle.rh_words.specs.Parts.{cell_count};
-ghost use Rattle.rh_steps.specs.Own.{IsClear, KnowsOwn};
+ghost use Rattle.std.specs.Prelude.{◌≡◌};
 ghost use Rattle.rh_helping.specs.Held.{held_in};
-ghost use Rattle.rh_helping.specs.Looking.{IsLooking, LooksOn, MayLookOn, kind_of_looking, reads_after};
-ghost use Rattle.rh_helping.specs.Machine.{led, looked, looking_of, work_of};
-ghost use Rattle.rh_helping.specs.Work.{Leads, MayEnd, Stands, kind_of_work};
-ghost use Rattle.rh_helping.specs.Made.{HasMadeStep, HasStepped};
+ghost use Rattle.rh_helping.specs.Looking.{kind_of_looking};
+ghost use Rattle.rh_helping.specs.Machine.{looked, looking_of};
 ghost use Rattle.rh_helping.specs.Next.{Looking};
-ghost use Rattle.rh_steps.specs.Relies.{Relies};
+ghost use Rattle.rh_helping.specs.Stepping.{HasLooked, MayLook};
 
 use crate::goal::Owed;
 use crate::machine::{At, Machine, Progress};
@@ -74,17 +70,10 @@ impl Machine {
         side: &mut Side,
         cell: usize,
     ) -> Sight
-        requires relies { Relies T.shows T.serves shape.now table.old side.old.known.view }
-        requires cell { cell < cell_count shape.now }
-        requires looking { IsLooking shape.now side.old.known.view (looking_of looks self.old) }
-        ensures made { HasStepped T.shows T.made shape.now
-            (kind_of_looking (looking_of looks self.old))
-            side.old.known.view.opened
-            (reads_after side.old.known.view cell (looked result self.new)) table.old
-            side.old.known.view table.new side.new.known.view }
-        ensures leads { LooksOn shape.now side.new.known.view (looked result self.new) }
-        ensures ends { MayLookOn side.old.known.view side.new.known.view (looking_of looks self.old)
-            (looked result self.new) }
+        requires { MayLook T.shows T.serves shape.now cell (looking_of looks self.old) table.old
+            side.old.known.view }
+        ensures { HasLooked T.shows T.made shape.now cell (looking_of looks self.old) table.old
+            side.old.known.view (looked result self.new) table.new side.new.known.view }
     {
         match looks {
             Watch::Read => self.read(shape, table, side, cell),
@@ -114,16 +103,10 @@ impl Machine {
         side: &mut Side,
         cell: usize,
     ) -> Sight
-        requires relies { Relies T.shows T.serves shape.now table.old side.old.known.view }
-        requires cell { cell < cell_count shape.now }
-        requires clear { IsClear side.old.known.view }
-        ensures made { HasStepped T.shows T.made shape.now StepKind.Read side.old.known.view.opened
-            (reads_after side.old.known.view cell (looked result self.new)) table.old
-            side.old.known.view
-            table.new side.new.known.view }
-        ensures leads { LooksOn shape.now side.new.known.view (looked result self.new) }
-        ensures ends { MayLookOn side.old.known.view side.new.known.view Looking.Read
-            (looked result self.new) }
+        requires { MayLook T.shows T.serves shape.now cell Looking.Read table.old
+            side.old.known.view }
+        ensures { HasLooked T.shows T.made shape.now cell Looking.Read table.old
+            side.old.known.view (looked result self.new) table.new side.new.known.view }
     {
         let word = table.make(shape, side, Request::Read(Reading::Cell(cell)));
         match what_stands(word) {

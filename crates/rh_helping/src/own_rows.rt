@@ -5,9 +5,9 @@
 ghost use Rattle.std.specs.Prelude.{◌≡◌, ◌<◌, ◌+◌, suc, Some, IfSome};
 ghost use Rattle.rh_words.specs.Parts.{cell_count, entry_row};
 ghost use Rattle.rh_words.specs.Words.{ref_of};
-ghost use Rattle.rh_steps.specs.Own.{KnowsOwn};
 ghost use Rattle.rh_helping.specs.Goal.{KnowsGoal, KnowsTask, opened_by};
 ghost use Rattle.rh_steps.specs.Relies.{Trusts};
+ghost use Rattle.rh_helping.specs.Stepping.{IsBetween};
 ghost use Rattle.rh_words.specs.Steps.{IsKnown, row_word};
 ghost use Rattle.rh_world.specs.World.{In};
 ghost use Rattle.rh_world.specs.Facts.Fact.{size_is};
@@ -40,8 +40,7 @@ pub(crate) fn own_size<T: Steps>(
     opens: Option<OpenDesc<'_>>,
     desc: Ref,
 ) -> usize
-    requires trusts { Trusts T.shows shape.now table.old side.now.known.view }
-    requires own { KnowsOwn side.now.known.view (opened_by opens) }
+    requires between { IsBetween T.shows shape.now (opened_by opens) table.old side.now.known.view }
     requires worker { desc.worker ≡ side.now.worker }
     requires last { suc desc.number ≡ side.now.next_number }
     requires known { IsKnown side.now.known.view.side.facts (ref_of desc) }
@@ -80,8 +79,7 @@ pub(crate) fn own_entry<T: Steps>(
     opens: Option<OpenDesc<'_>>,
     task: Task,
 ) -> Entry
-    requires trusts { Trusts T.shows shape.now table.old side.now.known.view }
-    requires own { KnowsOwn side.now.known.view (opened_by opens) }
+    requires between { IsBetween T.shows shape.now (opened_by opens) table.old side.now.known.view }
     requires task { KnowsTask side.now.known.view task }
     requires entry { task.entry < task.size }
     requires worker { task.desc.worker ≡ side.now.worker }

@@ -21,7 +21,7 @@ impl<T: Steps> Stage<T> for Release {
     ghost at = { stage.Release };
 
     #[inline(always)]
-    fn request(machine: &Machine, _side: &Side) -> Request {
+    fn request(machine: &Machine) -> Request {
         Request::Release {
             piece: machine.piece(),
             state: Some(machine.task.state),
@@ -107,7 +107,7 @@ impl<T: Steps> Stage<T> for GiveBack {
     ghost at = { stage.GiveBack };
 
     #[inline(always)]
-    fn request(machine: &Machine, _side: &Side) -> Request {
+    fn request(machine: &Machine) -> Request {
         Request::Release {
             piece: machine.piece(),
             state: None,

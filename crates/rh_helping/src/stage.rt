@@ -1,13 +1,13 @@
-//! The stages of a machine, but for those of `keeping`. Each is one step: which one, and what
-//! follows from the word that it found.
+//! The stages of a machine, but for those of `keeping` and its failure. Each is one step: which
+//! one, and what follows from the word that it found.
 
 ghost use Rattle.std.specs.Prelude.{◌≡◌};
 ghost use Rattle.rh_words.specs.Requests.{step_asked};
+ghost use Rattle.rh_words.specs.View.{View};
 ghost use Rattle.rh_helping.specs.Requested.{Follows, requested};
 ghost use Rattle.rh_helping.specs.Goal.{opened_by};
 ghost use Rattle.rh_helping.specs.Machine.{led, work_at};
-ghost use Rattle.rh_helping.specs.Work.{Leads, MayEnd};
-ghost use Rattle.rh_steps.specs.Relies.{Trusts};
+ghost use Rattle.rh_helping.specs.Stepping.{ComesTo};
 
 use crate::goal::OpenDesc;
 use crate::machine::{Machine, Progress};
@@ -21,8 +21,8 @@ pub(crate) trait Stage<T: Steps> {
     ghost at: { At };
 
     /// The step that the machine asks for.
-    fn request(machine: &Machine, side: &Side) -> Request
-        ensures { step_asked result ≡ requested side.now.known.view (work_at at machine.now) };
+    fn request(machine: &Machine) -> Request
+        ensures { (v : View) → step_asked result ≡ requested v (work_at at machine.now) };
 
     /// Goes on from the word that the step found. The table is there for own rows alone: no step is
     /// made.
@@ -34,12 +34,8 @@ pub(crate) trait Stage<T: Steps> {
         opens: Option<OpenDesc<'_>>,
         found: u64,
     ) -> Progress
-        requires trusts { Trusts T.shows shape.now table.old side.now.known.view }
-        requires follows { Follows shape.now (opened_by opens)
-            (work_at at machine.old) found side.now.known.view }
-        ensures same { table.new ≡ table.old }
-        ensures leads { Leads shape.now side.now.known.view (opened_by opens.entry)
-            (led result machine.new) }
-        ensures ends { MayEnd side.now.known.view (work_at at machine.old)
-            (led result machine.new) };
+        requires { Follows T.shows shape.now (opened_by opens) (work_at at machine.old) found
+            table.old side.now.known.view }
+        ensures { ComesTo shape.now (opened_by opens.entry) (work_at at machine.old) table.old
+            side.now.known.view (led result machine.new) table.new };
 }

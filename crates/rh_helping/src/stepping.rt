@@ -2,14 +2,11 @@
 //! alike.
 
 ghost use Rattle.std.specs.Prelude.{◌≡◌, IfSome, None, Some};
-ghost use Rattle.rh_steps.specs.Relies.{Relies};
-ghost use Rattle.rh_helping.specs.Made.{HasMadeStep};
-ghost use Rattle.rh_steps.specs.Own.{KnowsOwn};
 ghost use Rattle.rh_helping.specs.Goal.{opened_by};
 ghost use Rattle.rh_helping.specs.Machine.{led, work_at, work_of};
-ghost use Rattle.rh_helping.specs.Work.{Stands, Leads, MayEnd, kind_of_work};
+ghost use Rattle.rh_helping.specs.Stepping.{HasGoneOn, MayGoOn};
 
-use crate::deciding::{Fail, ReadReason, Succeed, Withdraw};
+use crate::deciding::{ReadReason, Succeed, Withdraw};
 use crate::entering::{Control, EntrySerial, LengthSerial};
 use crate::goal::OpenDesc;
 use crate::holding::{Demote, MarkControl, Place, Promote, Recheck, Settle};
@@ -32,19 +29,13 @@ impl Machine {
         side: &mut Side,
         own: OpenDesc<'_>,
     ) -> Option<Progress>
-        requires relies { Relies T.shows T.serves shape.now table.old side.old.known.view }
-        requires own { KnowsOwn side.old.known.view (opened_by (Some own)) }
-        requires stands { Stands shape.now side.old.known.view (work_of self.old) }
+        requires { MayGoOn T.shows T.serves shape.now (opened_by (Some own)) (work_of self.old)
+            table.old side.old.known.view }
         ensures same { result ≡ None → (self.new ≡ self.old) × (table.new ≡ table.old)
             × (side.new ≡ side.old) }
-        ensures made { IfSome result
-            (λ _. HasMadeStep T.shows T.made shape.now (kind_of_work (work_of self.old)) table.old
-            side.old.known.view table.new side.new.known.view) }
-        ensures leads { IfSome result
-            (λ on. Leads shape.now side.new.known.view (opened_by (Some own.entry))
-            (led on self.new)) }
-        ensures ends { IfSome result
-            (λ on. MayEnd side.new.known.view (work_of self.old) (led on self.new)) }
+        ensures goes { IfSome result (λ on. HasGoneOn T.shows T.made shape.now
+            (opened_by (Some own.entry)) (work_of self.old) table.old side.old.known.view
+            (led on self.new) table.new side.new.known.view) }
     {
         let opens = Some(own);
         let progress = match self.at {
@@ -73,15 +64,11 @@ impl Machine {
         side: &mut Side,
         own: OpenDesc<'_>,
     ) -> Progress
-        requires relies { Relies T.shows T.serves shape.now table.old side.old.known.view }
-        requires own { KnowsOwn side.old.known.view (opened_by (Some own)) }
-        requires stands { Stands shape.now side.old.known.view (work_of self.old) }
-        ensures made { HasMadeStep T.shows T.made shape.now
-            (kind_of_work (work_of self.old)) table.old
-            side.old.known.view table.new side.new.known.view }
-        ensures leads { Leads shape.now side.new.known.view (opened_by (Some own.entry))
-            (led result self.new) }
-        ensures ends { MayEnd side.new.known.view (work_of self.old) (led result self.new) }
+        requires { MayGoOn T.shows T.serves shape.now (opened_by (Some own)) (work_of self.old)
+            table.old side.old.known.view }
+        ensures { HasGoneOn T.shows T.made shape.now (opened_by (Some own.entry))
+            (work_of self.old) table.old side.old.known.view (led result self.new)
+            table.new side.new.known.view }
     {
         match self.step_fast(shape, table, side, own) {
             Some(progress) => progress,
@@ -99,15 +86,10 @@ impl Machine {
         side: &mut Side,
         opens: Option<OpenDesc<'_>>,
     ) -> Progress
-        requires relies { Relies T.shows T.serves shape.now table.old side.old.known.view }
-        requires own { KnowsOwn side.old.known.view (opened_by opens) }
-        requires stands { Stands shape.now side.old.known.view (work_of self.old) }
-        ensures made { HasMadeStep T.shows T.made shape.now
-            (kind_of_work (work_of self.old)) table.old
-            side.old.known.view table.new side.new.known.view }
-        ensures leads { Leads shape.now side.new.known.view (opened_by opens.entry)
-            (led result self.new) }
-        ensures ends { MayEnd side.new.known.view (work_of self.old) (led result self.new) }
+        requires { MayGoOn T.shows T.serves shape.now (opened_by opens) (work_of self.old)
+            table.old side.old.known.view }
+        ensures { HasGoneOn T.shows T.made shape.now (opened_by opens.entry) (work_of self.old)
+            table.old side.old.known.view (led result self.new) table.new side.new.known.view }
     {
         match self.at {
             At::Control => self.make::<T, Control>(shape, table, side, opens),
@@ -119,7 +101,7 @@ impl Machine {
             At::Promote => self.make::<T, Promote>(shape, table, side, opens),
             At::Demote => self.make::<T, Demote>(shape, table, side, opens),
             At::Recheck => self.make::<T, Recheck>(shape, table, side, opens),
-            At::Fail => self.make::<T, Fail>(shape, table, side, opens),
+            At::Fail => self.fail(shape, table, side, opens),
             At::Succeed => self.make::<T, Succeed>(shape, table, side, opens),
             At::Withdraw => self.make::<T, Withdraw>(shape, table, side, opens),
             At::ReadReason => self.make::<T, ReadReason>(shape, table, side, opens),
@@ -139,17 +121,13 @@ impl Machine {
         side: &mut Side,
         opens: Option<OpenDesc<'_>>,
     ) -> Progress
-        requires relies { Relies T.shows T.serves shape.now table.old side.old.known.view }
-        requires own { KnowsOwn side.old.known.view (opened_by opens) }
-        requires stands { Stands shape.now side.old.known.view (work_at S.at self.old) }
-        ensures made { HasMadeStep T.shows T.made shape.now
-            (kind_of_work (work_at S.at self.old)) table.old
-            side.old.known.view table.new side.new.known.view }
-        ensures leads { Leads shape.now side.new.known.view (opened_by opens.entry)
-            (led result self.new) }
-        ensures ends { MayEnd side.new.known.view (work_at S.at self.old) (led result self.new) }
+        requires { MayGoOn T.shows T.serves shape.now (opened_by opens) (work_at S.at self.old)
+            table.old side.old.known.view }
+        ensures { HasGoneOn T.shows T.made shape.now (opened_by opens.entry)
+            (work_at S.at self.old) table.old side.old.known.view (led result self.new)
+            table.new side.new.known.view }
     {
-        let request = S::request(self, side);
+        let request = S::request(self);
         let found = table.make(shape, side, request);
         S::after(self, shape, table, side, opens, found)
     }

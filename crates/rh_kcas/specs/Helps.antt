@@ -6,8 +6,19 @@ use Rattle.rh_world.specs.World.{In, Ref, Control as Result}
 use Rattle.rh_world.specs.Facts.Fact.{decided, over}
 use Rattle.rh_words.specs.declared.shape.Shape.{Shape}
 use Rattle.rh_words.specs.View.{View}
+use Rattle.rh_words.specs.Steps.{IsKnown}
+use Rattle.rh_steps.specs.Own.{IsClear}
+use Rattle.rh_steps.specs.Relies.{Trusts}
 use Rattle.rh_helping.specs.Goal.{StandsAt}
+use Rattle.rh_shared.specs.Sits.{Sits}
+use Rattle.rh_shared.specs.declared.on_table.OnTable.{OnTable}
 use Rattle.rh_swaps.specs.Swaps.{HasNoted}
+
+-- at its seat a worker of whom no own descriptor is open, and that owes nothing, knows of d
+pub record MayHelp (z : Shape) (d : Ref) (t : OnTable) (v : View) : Type 0 where
+  pub trusts : Trusts Sits z t v
+  pub clear : IsClear v
+  pub known : IsKnown v.side.facts d
 
 -- d stands so, or is decided, as it is stale
 abbrev pub IsTold : View → (d : Ref) → Option State → Type 0

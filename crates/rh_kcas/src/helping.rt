@@ -6,11 +6,10 @@ ghost use Rattle.rh_words.specs.Words.{ref_of};
 ghost use Rattle.rh_steps.specs.Own.{IsClear};
 ghost use Rattle.rh_shared.specs.Rests.{SeatRests, StaysAtRest};
 ghost use Rattle.rh_swaps.specs.Swaps.{HasNoted};
-ghost use Rattle.rh_kcas.specs.Helps.{HasHelped, IsTold, is_over};
+ghost use Rattle.rh_kcas.specs.Helps.{HasHelped, IsTold, MayHelp, is_over};
 ghost use Rattle.rh_shared.specs.Seats.{view_of};
-ghost use Rattle.rh_shared.specs.Sits.{Sits, StaysTrusted};
+ghost use Rattle.rh_shared.specs.Sits.{StaysTrusted};
 ghost use Rattle.rh_rule.specs.Rest.{made};
-ghost use Rattle.rh_steps.specs.Relies.{Trusts};
 
 use rh_helping::{Machine, Progress, state_told};
 use rh_shared::{OnTable, Seat, Table};
@@ -36,9 +35,7 @@ pub fn help<R: Wait>(rt: &R, table: &Table, seat: &mut Seat, desc: Ref)
 }
 
 fn go_about<R: Wait>(rt: &R, shape: &Shape, here: &mut OnTable, side: &mut Side, desc: Ref)
-    requires trusts { Trusts Sits shape.now here.old side.old.known.view }
-    requires clear { IsClear side.old.known.view }
-    requires known { IsKnown side.old.known.view.side.facts (ref_of desc) }
+    requires { MayHelp shape.now (ref_of desc) here.old side.old.known.view }
     ensures stays { StaysTrusted shape.now here.old here.new side.new.known.view }
     ensures clear { IsClear side.new.known.view }
     ensures helps { HasHelped shape.now (ref_of desc) side.old.known.view side.new.known.view }
@@ -65,9 +62,7 @@ fn go_about<R: Wait>(rt: &R, shape: &Shape, here: &mut OnTable, side: &mut Side,
 
 /// How the descriptor stands, by one Read. None where it is stale.
 fn state(shape: &Shape, here: &mut OnTable, side: &mut Side, desc: Ref) -> Option<State>
-    requires trusts { Trusts Sits shape.now here.old side.old.known.view }
-    requires clear { IsClear side.old.known.view }
-    requires known { IsKnown side.old.known.view.side.facts (ref_of desc) }
+    requires { MayHelp shape.now (ref_of desc) here.old side.old.known.view }
     ensures stays { StaysTrusted shape.now here.old here.new side.new.known.view }
     ensures clear { IsClear side.new.known.view }
     ensures told { IsTold side.new.known.view (ref_of desc) result }

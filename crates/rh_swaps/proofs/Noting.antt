@@ -1,12 +1,20 @@
 -- What a worker has noted, from step to step.
-use Rattle.std.proofs.Common.{◌≡◌, ℕ, suc, Some, refl, ap, ◌∙◌, sym, List, ◌∷◌, length, arith}
+use Rattle.std.proofs.Common.{◌≡◌, ℕ, suc, Some, refl, ap, ◌∙◌, sym, subst, List, ◌∷◌, length, arith}
 use Rattle.rh_words.specs.declared.shape.Shape.{Shape}
 use Rattle.rh_words.specs.declared.steps.StepKind.{StepKind}
-use Rattle.rh_words.specs.View.{OwnDesc, View}
+use Rattle.rh_words.specs.View.{OwnDesc, View, own_ref}
 use Rattle.rh_words.specs.Steps.{Step, noted}
 use Rattle.rh_rule.proofs.SeatsKept.{noted_opening, noted_worker}
+use Rattle.rh_helping.specs.declared.machine.Ended.{Ended}
 use Rattle.rh_helping.specs.Made.{HasMadeStep}
-use Rattle.rh_swaps.specs.Swaps.{HasNoted}
+use Rattle.rh_helping.specs.Next.{Work}
+use Rattle.rh_helping.specs.Next.Outcome.{Closed}
+use Rattle.rh_helping.specs.Stepping.{HasGoneOn}
+use Rattle.rh_helping.specs.Work.{FailsWithin, HasEnded}
+use Rattle.rh_shared.specs.Sits.{Sits, Stays, Steps}
+use Rattle.rh_shared.specs.declared.on_table.OnTable.{OnTable}
+use Rattle.rh_shared.proofs.Lending.{stays_on}
+use Rattle.rh_swaps.specs.Swaps.{HasCarriedOut, HasNoted}
 
 pub noted_first : (v : View) → HasNoted v v
 noted_first v = record { worker = refl; opening = refl; facts = λ n i. i; opened = refl; next_number = refl; reads = refl; claims = refl }
@@ -57,5 +65,18 @@ made_notes z k t v then next m = record {
 }
 
 -- the own descriptor that was closed is the one that was open
-pub closed_is : (own desc : OwnDesc) → Some own ≡ Some desc → desc ≡ own
+closed_is : (own desc : OwnDesc) → Some own ≡ Some desc → desc ≡ own
 closed_is own desc is = let e : own ≡ desc = cc in sym e
+
+-- it is closed by a step, after others
+pub closes : {z : Shape} {own : OwnDesc} {t u then : OnTable} {v w next : View} {x : Work} {k : Ended} → Stays t u → HasNoted v w → HasGoneOn Sits Steps z (Some own) x u w (Closed k) then next → HasCarriedOut z own t v k then next
+closes {z} {own} {t} {u} {then} {v} {w} {next} {x} {k} stays noted e =
+    let l = e.leads.2 in
+    let same = closed_is own e.leads.0 e.leads.1 in record {
+      stays = record { stays = stays_on _ _ _ stays e.made.steps.stays; trusts = e.made.trusts };
+      told = e.made.steps.told;
+      noted = noted_on v w next noted (made_notes z _ u w then next e.made);
+      clear = record { own = l.own; owes = l.owes };
+      result = subst (λ (o : OwnDesc). HasEnded next (own_ref next o.number) k) same l.result;
+      entry = subst (λ (o : OwnDesc). FailsWithin (length o.entries) k) same l.entry;
+    }

@@ -15,7 +15,9 @@ use Rattle.rh_rule.specs.Rest.{made}
 use Rattle.rh_helping.specs.Opening.{next_own}
 use Rattle.rh_steps.specs.Relies.{Knows}
 use Rattle.rh_shared.specs.Rests.{IsRested}
-use Rattle.rh_swaps.specs.Swaps.{RestSpec, HasCarriedOut, HasOpened}
+use Rattle.rh_shared.specs.declared.on_table.OnTable.{OnTable}
+use Rattle.rh_swaps.specs.Swaps.{BecameOf, HasCarriedOut, HasOpened, RestSpec, Swaps}
+use Rattle.rh_swaps.specs.declared.swapping.Outcome.{Outcome}
 use Rattle.rh_swaps.proofs.Carried.{made_more, over_more}
 
 abbrev has_succeeded : Ended → Bool
@@ -39,8 +41,8 @@ pub record IsSwapped (z : Shape) (es : List Entry) (v next : View) (k : Ended) :
   pub reads : next.side.reads ≡ v.side.reads
   pub claims : next.side.claims ≡ v.side.claims
 
-pub is_swapped : (z : Shape) (es : List Entry) (v open_one next : View) (number : ℕ) (k : Ended) → v.next_number ≡ number → Knows z next → IsRested v
-    → HasOpened v (next_own v es) open_one → HasCarriedOut open_one (record { number = number; entries = es }) next k → IsSwapped z es v next k
+pub is_swapped : {t then : OnTable} (z : Shape) (es : List Entry) (v open_one next : View) (number : ℕ) (k : Ended) → v.next_number ≡ number → Knows z next → IsRested v
+    → HasOpened v (next_own v es) open_one → HasCarriedOut z (record { number = number; entries = es }) t open_one k then next → IsSwapped z es v next k
 is_swapped z es v mid next number k same knows rest o c =
     let worker = c.noted.worker ∙ o.worker in
     let facts : (n : Fact) → In n v.side.facts → In n next.side.facts = λ n i. c.noted.facts n (o.facts n i) in
@@ -57,3 +59,6 @@ is_swapped z es v mid next number k same knows rest o c =
       reads = c.noted.reads ∙ o.reads;
       claims = c.noted.claims ∙ o.claims;
     }
+
+pub swaps_so : {z : Shape} {es : List Entry} {v next : View} {k : Ended} {o : Outcome} → IsSwapped z es v next k → BecameOf z es v next o → Swaps z es v next o
+swaps_so s became = record { became = became; opening = s.opening; facts = s.facts; reads = s.reads; claims = s.claims }

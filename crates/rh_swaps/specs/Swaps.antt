@@ -6,12 +6,18 @@ use Rattle.rh_world.specs.Facts.{Fact}
 use Rattle.rh_words.specs.declared.shape.Shape.{Shape}
 use Rattle.rh_words.specs.View.{OwnDesc, View, own_ref}
 use Rattle.rh_words.specs.Words.{IsPlain}
-use Rattle.rh_rule.specs.Rest.{made}
+use Rattle.rh_rule.specs.Rest.{IsTold, made}
 use Rattle.rh_helping.specs.declared.machine.Ended.{Ended}
 use Rattle.rh_helping.specs.declared.machine.Ended.TheVariants as ended
 use Rattle.rh_steps.specs.Own.{IsClear, KnowsOwn, OwesNothing}
 use Rattle.rh_helping.specs.Opening.{next_own}
 use Rattle.rh_helping.specs.Work.{HasEnded, FailsWithin}
+use Rattle.rh_shared.specs.Rests.{StaysAtRest}
+use Rattle.rh_shared.specs.Seats.{view_of}
+use Rattle.rh_shared.specs.Sits.{StaysTrusted}
+use Rattle.rh_shared.specs.declared.on_table.OnTable.{OnTable}
+use Rattle.rh_shared.specs.declared.seat.Seat.{Seat}
+use Rattle.rh_shared.specs.declared.table.Table.{Table}
 use Rattle.rh_swaps.specs.declared.swapping.Outcome.{Outcome}
 use Rattle.rh_swaps.specs.declared.swapping.Outcome.TheVariants.{Done, Failed, Spent}
 
@@ -40,8 +46,10 @@ pub record HasOpened (v : View) (own : OwnDesc) (next : View) : Type 0 where
   pub knows : KnowsOwn next (Some own)
   pub owes : OwesNothing next
 
--- this own descriptor ended so, where it failed at one of its entries, and is released
-pub record HasCarriedOut (v : View) (own : OwnDesc) (next : View) (k : Ended) : Type 0 where
+-- This own descriptor ended so, where it failed at one of its entries, and is released; the rule tells of that moment.
+pub record HasCarriedOut (z : Shape) (own : OwnDesc) (t : OnTable) (v : View) (k : Ended) (then : OnTable) (next : View) : Type 0 where
+  pub stays : StaysTrusted z t then next
+  pub told : IsTold z next
   pub noted : HasNoted v next
   pub clear : IsClear next
   pub result : HasEnded next (own_ref next own.number) k
@@ -92,3 +100,17 @@ pub record HasReadCell (z : Shape) (c : ℕ) (v next : View) (seen : Option ℕ)
   pub opened : next.opened ≡ v.opened
   pub next_number : next.next_number ≡ v.next_number
   pub claims : next.side.claims ≡ v.side.claims
+
+-- A cell was looked at until a plain word stood there, or no mark was left, and nothing is owed; the rule tells of that moment.
+pub record HasLookedAt (z : Shape) (c : ℕ) (t : OnTable) (v : View) (seen : Option ℕ) (then : OnTable) (next : View) : Type 0 where
+  pub stays : StaysTrusted z t then next
+  pub clear : IsClear next
+  pub told : IsTold z next
+  pub reads : HasReadCell z c v next seen
+
+-- A seat at rest read the cell so, and rests again with the same own acts; the rule tells of that moment.
+pub record HasReadAtRest (t : Table) (c : ℕ) (s : Seat) (seen : Option ℕ) (then : Seat) : Type 0 where
+  pub stays : StaysAtRest t s then
+  pub acts : made (view_of then) ≡ made (view_of s)
+  pub reads : HasReadCell t.shape c (view_of s) (view_of then) seen
+  pub told : IsTold t.shape (view_of then)

@@ -1,16 +1,13 @@
 //! Reading a cell.
 
-ghost use Rattle.std.specs.Prelude.{◌≡◌, ◌<◌};
+ghost use Rattle.std.specs.Prelude.{◌<◌};
 ghost use Rattle.rh_words.specs.Parts.{cell_count};
-ghost use Rattle.rh_steps.specs.Own.{IsClear};
-ghost use Rattle.rh_helping.specs.Looking.{IsLooking};
 ghost use Rattle.rh_helping.specs.Machine.{looking_of};
-ghost use Rattle.rh_shared.specs.Rests.{SeatRests, StaysAtRest};
-ghost use Rattle.rh_swaps.specs.Swaps.{HasReadCell};
-ghost use Rattle.rh_shared.specs.Seats.{view_of};
-ghost use Rattle.rh_shared.specs.Sits.{Sits, StaysTrusted};
-ghost use Rattle.rh_rule.specs.Rest.{IsTold, made};
-ghost use Rattle.rh_steps.specs.Relies.{Trusts};
+ghost use Rattle.rh_helping.specs.Next.{Looking};
+ghost use Rattle.rh_helping.specs.Stepping.{MayLook};
+ghost use Rattle.rh_shared.specs.Rests.{SeatRests};
+ghost use Rattle.rh_shared.specs.Sits.{Sits};
+ghost use Rattle.rh_swaps.specs.Swaps.{HasLookedAt, HasReadAtRest};
 
 use rh_helping::{Machine, Sight, Watch};
 use rh_shared::{OnTable, Seat, Table};
@@ -22,10 +19,7 @@ use std::sync::Wait;
 pub fn read<R: Wait>(rt: &R, table: &Table, seat: &mut Seat, cell: usize) -> Option<u64>
     requires rests { SeatRests table.now seat.old }
     requires cell { cell < cell_count table.now.shape }
-    ensures stays { StaysAtRest table.now seat.old seat.new }
-    ensures acts { made (view_of seat.new) ≡ made (view_of seat.old) }
-    ensures reads { HasReadCell table.now.shape cell (view_of seat.old) (view_of seat.new) result }
-    ensures told { IsTold table.now.shape (view_of seat.new) }
+    ensures { HasReadAtRest table.now cell seat.old result seat.new }
 {
     let mut here = OnTable {
         table,
@@ -43,13 +37,9 @@ fn look<R: Wait>(
     side: &mut Side,
     cell: usize,
 ) -> Option<u64>
-    requires trusts { Trusts Sits shape.now here.old side.old.known.view }
-    requires clear { IsClear side.old.known.view }
-    requires cell { cell < cell_count shape.now }
-    ensures stays { StaysTrusted shape.now here.old here.new side.new.known.view }
-    ensures clear { IsClear side.new.known.view }
-    ensures told { IsTold shape.now side.new.known.view }
-    ensures reads { HasReadCell shape.now cell side.old.known.view side.new.known.view result }
+    requires { MayLook Sits Sits shape.now cell Looking.Read here.old side.old.known.view }
+    ensures { HasLookedAt shape.now cell here.old side.old.known.view result here.new
+        side.new.known.view }
 {
     let mut machine = Machine::about(Ref {
         worker: side.worker,
@@ -57,36 +47,27 @@ fn look<R: Wait>(
     });
     match machine.look(Watch::Read, shape, here, side, cell) {
         Sight::Sees(word) => Some(word),
-        Sight::On(watch) => look_on_copy(rt, shape, here, side, cell, watch, &machine),
+        // (on a copy: so the machine of who meets values alone may be left out)
+        Sight::On(watch) => look_on(
+            rt,
+            shape,
+            here,
+            side,
+            cell,
+            &mut Observer { watch, machine },
+        ),
         Sight::Spent => None,
     }
 }
 
-/// Goes on where no value stands, apart and on a copy: so the machine of who meets values alone may
-/// be left out.
-#[inline(always)]
-fn look_on_copy<R: Wait>(
-    rt: &R,
-    shape: &Shape,
-    here: &mut OnTable,
-    side: &mut Side,
-    cell: usize,
+/// A look at a cell where no value stood: which step is next, in its machine.
+#[derive(Clone, Copy)]
+struct Observer {
     watch: Watch,
-    machine: &Machine,
-) -> Option<u64>
-    requires trusts { Trusts Sits shape.now here.old side.old.known.view }
-    requires looking { IsLooking shape.now side.old.known.view (looking_of watch machine.now) }
-    requires cell { cell < cell_count shape.now }
-    ensures stays { StaysTrusted shape.now here.old here.new side.new.known.view }
-    ensures clear { IsClear side.new.known.view }
-    ensures told { IsTold shape.now side.new.known.view }
-    ensures reads { HasReadCell shape.now cell side.old.known.view side.new.known.view result }
-{
-    let mut machine = *machine;
-    look_on(rt, shape, here, side, cell, watch, &mut machine)
+    machine: Machine,
 }
 
-/// Goes on with what stands in the cell until a value does.
+/// Goes on with it until a value stands there.
 #[cold]
 #[inline(never)]
 fn look_on<R: Wait>(
@@ -95,21 +76,19 @@ fn look_on<R: Wait>(
     here: &mut OnTable,
     side: &mut Side,
     cell: usize,
-    watch: Watch,
-    machine: &mut Machine,
+    observer: &mut Observer,
 ) -> Option<u64>
-    requires trusts { Trusts Sits shape.now here.old side.old.known.view }
-    requires looking { IsLooking shape.now side.old.known.view (looking_of watch machine.old) }
-    requires cell { cell < cell_count shape.now }
-    ensures stays { StaysTrusted shape.now here.old here.new side.new.known.view }
-    ensures clear { IsClear side.new.known.view }
-    ensures told { IsTold shape.now side.new.known.view }
-    ensures reads { HasReadCell shape.now cell side.old.known.view side.new.known.view result }
+    requires { MayLook Sits Sits shape.now cell
+        (looking_of observer.old.watch observer.old.machine) here.old side.old.known.view }
+    ensures { HasLookedAt shape.now cell here.old side.old.known.view result here.new
+        side.new.known.view }
 {
-    let mut watch = watch;
     for _ in rt.forever() {
-        match machine.look(watch, shape, here, side, cell) {
-            Sight::On(next) => watch = next,
+        match observer
+            .machine
+            .look(observer.watch, shape, here, side, cell)
+        {
+            Sight::On(next) => observer.watch = next,
             Sight::Sees(word) => return Some(word),
             Sight::Spent => return None,
         }

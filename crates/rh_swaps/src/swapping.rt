@@ -7,7 +7,7 @@ ghost use Rattle.rh_steps.specs.Own.{KnowsOwn, OwesNothing};
 ghost use Rattle.rh_helping.specs.Goal.{opened_by, own_of};
 ghost use Rattle.rh_helping.specs.Machine.{work_of};
 ghost use Rattle.rh_helping.specs.Opening.{MayOpen, next_own};
-ghost use Rattle.rh_helping.specs.Work.{Stands};
+ghost use Rattle.rh_helping.specs.Stepping.{MayGoOn};
 ghost use Rattle.rh_shared.specs.Rests.{SeatRests, StaysAtRest};
 ghost use Rattle.rh_swaps.specs.Swaps.{HasCarriedOut, HasNoRoom, HasOpened, Swaps};
 ghost use Rattle.rh_swaps.specs.declared.swapping.Outcome.TheVariants.{Spent};
@@ -95,10 +95,8 @@ pub fn carry_out<R: Wait>(
     requires trusts { Trusts Sits shape.now here.old side.old.known.view }
     requires own { KnowsOwn side.old.known.view (opened_by (Some own)) }
     requires owes { OwesNothing side.old.known.view }
-    ensures stays { StaysTrusted shape.now here.old here.new side.new.known.view }
-    ensures told { IsTold shape.now side.new.known.view }
-    ensures carries { HasCarriedOut side.old.known.view
-        (own_of own.entry) side.new.known.view result }
+    ensures { HasCarriedOut shape.now (own_of own.entry) here.old side.old.known.view result
+        here.new side.new.known.view }
 {
     let mut machine = Machine::about(Ref {
         worker: side.worker,
@@ -127,13 +125,10 @@ fn carry_on_copy<R: Wait>(
     own: OpenDesc<'_>,
     machine: &Machine,
 ) -> Ended
-    requires trusts { Trusts Sits shape.now here.old side.old.known.view }
-    requires own { KnowsOwn side.old.known.view (opened_by (Some own)) }
-    requires stands { Stands shape.now side.old.known.view (work_of machine.now) }
-    ensures stays { StaysTrusted shape.now here.old here.new side.new.known.view }
-    ensures told { IsTold shape.now side.new.known.view }
-    ensures carries { HasCarriedOut side.old.known.view
-        (own_of own.entry) side.new.known.view result }
+    requires { MayGoOn Sits Sits shape.now (opened_by (Some own)) (work_of machine.now) here.old
+        side.old.known.view }
+    ensures { HasCarriedOut shape.now (own_of own.entry) here.old side.old.known.view result
+        here.new side.new.known.view }
 {
     let apart = *shape;
     let mut machine = *machine;
@@ -150,13 +145,10 @@ fn carry_on<R: Wait>(
     own: OpenDesc<'_>,
     machine: &mut Machine,
 ) -> Ended
-    requires trusts { Trusts Sits shape.now here.old side.old.known.view }
-    requires own { KnowsOwn side.old.known.view (opened_by (Some own)) }
-    requires stands { Stands shape.now side.old.known.view (work_of machine.old) }
-    ensures stays { StaysTrusted shape.now here.old here.new side.new.known.view }
-    ensures told { IsTold shape.now side.new.known.view }
-    ensures carries { HasCarriedOut side.old.known.view
-        (own_of own.entry) side.new.known.view result }
+    requires { MayGoOn Sits Sits shape.now (opened_by (Some own)) (work_of machine.old) here.old
+        side.old.known.view }
+    ensures { HasCarriedOut shape.now (own_of own.entry) here.old side.old.known.view result
+        here.new side.new.known.view }
 {
     for _ in rt.forever() {
         match machine.step(shape, here, side, Some(own)) {

@@ -55,5 +55,7 @@ loop-preserved g c =
       noted = noted_on _ _ _ (noted_on _ _ _ h.noted (made_notes _ _ _ _ _ _ m)) k.facts;
     }
 
-pub state-requires-clause-known : goal.state-requires-clause-known
-state-requires-clause-known g c = known_sub _ _ c.in-Over.ensures.made.facts _ c.loop.invariant.known
+pub state-requires : goal.state-requires
+state-requires g c =
+    let e = c.in-Over.ensures in
+    record { trusts = e.made.trusts; clear = record { own = e.leads.0; owes = e.leads.1 }; known = known_sub _ _ e.made.facts _ c.loop.invariant.known }

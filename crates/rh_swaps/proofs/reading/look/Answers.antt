@@ -1,23 +1,20 @@
-use Rattle.rh_swaps.proofs.Looking.{none_seen, plain_seen, seen_later}
-use Rattle.rh_swaps.proofs.Noting.{made_notes}
-use Rattle.rh_shared.proofs.Lending.{stays_on}
+use Rattle.rh_swaps.proofs.Looking.{seen_later, sees_none, sees_word}
+use Rattle.rh_swaps.proofs.Noting.{made_notes, noted_first}
+use Rattle.rh_shared.proofs.Lending.{stays_first, stays_on}
 use Rattle.rh_swaps.proofs.reading.look.Goals as goal
 
-pub returns-in-Sees-clause-reads : goal.returns-in-Sees-clause-reads
-returns-in-Sees-clause-reads g c =
-    let e = c.in-Sees.ensures in
-    plain_seen c.args.shape.now _ c.args.cell c.in-Sees.word _ c.args.side.now.known.view _ c.look.new.side.known.view e.made e.leads.1
+pub returns-in-Sees : goal.returns-in-Sees
+returns-in-Sees g c = sees_word (stays_first _) (noted_first _) c.in-Sees.ensures
 
-pub returns-in-Spent-clause-reads : goal.returns-in-Spent-clause-reads
-returns-in-Spent-clause-reads g c =
-    let e = c.in-Spent.ensures in
-    none_seen c.args.shape.now c.args.cell c.args.side.now.known.view c.look.new.side.known.view (made_notes _ _ _ _ _ _ e.made) e.leads.1
+pub returns-in-Spent : goal.returns-in-Spent
+returns-in-Spent g c = sees_none (stays_first _) (noted_first _) c.in-Spent.ensures
 
-pub returns-in-On-clause-stays : goal.returns-in-On-clause-stays
-returns-in-On-clause-stays g c =
-    let after = c.look_on_copy.ensures.stays in
-    record { stays = stays_on _ _ _ c.in-On.ensures.made.steps.stays after.stays; trusts = after.trusts }
-
-pub returns-in-On-clause-reads : goal.returns-in-On-clause-reads
-returns-in-On-clause-reads g c =
-    seen_later c.args.shape.now c.args.cell c.args.side.now.known.view c.look.new.side.known.view _ c.look_on_copy.result (made_notes _ _ _ _ _ _ c.in-On.ensures.made) c.look_on_copy.ensures.reads
+pub returns-in-On : goal.returns-in-On
+returns-in-On g c =
+    let m = c.in-On.ensures.made in
+    let e = c.look_on.ensures in record {
+      stays = record { stays = stays_on _ _ _ m.steps.stays e.stays.stays; trusts = e.stays.trusts };
+      clear = e.clear;
+      told = e.told;
+      reads = seen_later _ _ _ _ _ _ (made_notes _ _ _ _ _ _ m) e.reads;
+    }

@@ -5,8 +5,10 @@ use Rattle.rh_worker.proofs.Anew.{kept_alike, none_read}
 use Rattle.rh_worker.proofs.CloseStep.{does_same, failure_stays, opens_same, still_open, success_stays, swap_fails, swap_spends, swap_succeeds, swap_withdraws}
 use Rattle.rh_worker.proofs.swapping.swap.Goals as goal
 
-pub step_own-requires-clause-own : goal.step_own-requires-clause-own
-step_own-requires-clause-own g c = opens_same _ c.args.number _ _ (ap (take c.args.plan.entries) c.deref.ensures.value) c.requires.worker.stays.0
+pub step_own-requires : goal.step_own-requires
+step_own-requires g c =
+    let h = c.requires.worker.stays in
+    record { relies = c.requires.relies; own = opens_same _ c.args.number _ _ (ap (take c.args.plan.entries) c.deref.ensures.value) h.0; stands = h.1 }
 
 pub returns-in-On-clause-worker : goal.returns-in-On-clause-worker
 returns-in-On-clause-worker g c =

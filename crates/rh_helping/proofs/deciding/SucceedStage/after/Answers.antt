@@ -1,13 +1,14 @@
+use Rattle.std.proofs.Common.{refl}
 use Rattle.rh_tagword.specs.declared.control.State.TheVariants.{Succeeded}
 use Rattle.rh_helping.proofs.Decisions.{task_serial}
 use Rattle.rh_helping.proofs.deciding.SucceedStage.after.Goals as goal
 
 pub decided_word-control-requires : goal.decided_word-control-requires
-decided_word-control-requires g c = let f = c.requires.follows in (task_serial _ _ f.knows c.args.machine.now.task f.stands.0, tt)
+decided_word-control-requires g c = let f = c.requires in (task_serial _ _ f.knows c.args.machine.now.task f.stands.0, tt)
 
 pub decided-requires-clause-follows : goal.decided-requires-clause-follows
 decided-requires-clause-follows g c =
-    let f = c.requires.follows in record {
+    let f = c.requires in record {
       before = f.before;
       knows = f.knows;
       own = f.own;
@@ -21,3 +22,6 @@ decided-requires-clause-follows g c =
       view_is = f.view_is;
       control_is = c.decided_word-control.ensures;
     }
+
+pub returns : goal.returns
+returns g c = c.decided.ensures _ refl

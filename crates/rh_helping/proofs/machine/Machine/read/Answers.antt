@@ -9,45 +9,32 @@ use Rattle.rh_helping.proofs.Looks.{looks, may_look, reads_desc, reads_mark, rea
 use Rattle.rh_helping.proofs.Made.{stepped}
 use Rattle.rh_helping.proofs.machine.Machine.read.Goals as goal
 
-pub returns-in-Value-clause-made : goal.returns-in-Value-clause-made
-returns-in-Value-clause-made g c =
+pub returns-in-Value : goal.returns-in-Value
+returns-in-Value g c =
     let z = c.args.shape.now in
     let v = c.args.side.now.known.view in
-    let r = reads_value z v c.args.cell c.make-word.result c.requires.clear c.in-Value.ensures c.make-word.ensures.finds in
-    stepped z _ _ v _ _ _ _ _ r.0 (may_look z v c.args.cell c.make-word.result c.requires.relies.now.knows c.requires.cell) c.make-word.ensures
+    let r = reads_value z v c.args.cell c.make-word.result c.requires.looking c.in-Value.ensures c.make-word.ensures.finds in record {
+      made = stepped z _ _ v _ _ _ _ _ r.0 (may_look z v c.args.cell c.make-word.result c.requires.relies.now.knows c.requires.cell) c.make-word.ensures;
+      leads = looks z _ _ (Sees c.make-word.result) c.make-word.ensures.view_is r.1;
+      ends = λ is. cc;
+    }
 
-pub returns-in-Value-clause-leads : goal.returns-in-Value-clause-leads
-returns-in-Value-clause-leads g c =
+pub returns-in-Mark : goal.returns-in-Mark
+returns-in-Mark g c =
     let z = c.args.shape.now in
     let v = c.args.side.now.known.view in
-    let r = reads_value z v c.args.cell c.make-word.result c.requires.clear c.in-Value.ensures c.make-word.ensures.finds in
-    looks z _ _ (Sees c.make-word.result) c.make-word.ensures.view_is r.1
+    let r = reads_mark z v c.args.cell c.make-word.result c.requires.looking c.in-Mark.mark c.in-Mark.ensures in record {
+      made = stepped z _ _ v _ _ _ _ _ r.0 (may_look z v c.args.cell c.make-word.result c.requires.relies.now.knows c.requires.cell) c.make-word.ensures;
+      leads = subst (λ (s : Settles). LooksOn z c.make-word.new.side.known.view (On (looking.Settle s))) (sym c.met-self.ensures) (looks z _ _ (On (looking.Settle (settling.Desc c.in-Mark.mark c.args.cell))) c.make-word.ensures.view_is r.1);
+      ends = λ is. cc;
+    }
 
-pub returns-in-Mark-clause-made : goal.returns-in-Mark-clause-made
-returns-in-Mark-clause-made g c =
+pub returns-in-Desc : goal.returns-in-Desc
+returns-in-Desc g c =
     let z = c.args.shape.now in
     let v = c.args.side.now.known.view in
-    let r = reads_mark z v c.args.cell c.make-word.result c.requires.clear c.in-Mark.mark c.in-Mark.ensures in
-    stepped z _ _ v _ _ _ _ _ r.0 (may_look z v c.args.cell c.make-word.result c.requires.relies.now.knows c.requires.cell) c.make-word.ensures
-
-pub returns-in-Mark-clause-leads : goal.returns-in-Mark-clause-leads
-returns-in-Mark-clause-leads g c =
-    let z = c.args.shape.now in
-    let v = c.args.side.now.known.view in
-    let r = reads_mark z v c.args.cell c.make-word.result c.requires.clear c.in-Mark.mark c.in-Mark.ensures in
-    subst (λ (s : Settles). LooksOn z c.make-word.new.side.known.view (On (looking.Settle s))) (sym c.met-self.ensures)
-    (looks z _ _ (On (looking.Settle (settling.Desc c.in-Mark.mark c.args.cell))) c.make-word.ensures.view_is r.1)
-
-pub returns-in-Desc-clause-made : goal.returns-in-Desc-clause-made
-returns-in-Desc-clause-made g c =
-    let z = c.args.shape.now in
-    let v = c.args.side.now.known.view in
-    let r = reads_desc z v c.args.cell c.make-word.result c.requires.clear c.in-Desc.desc c.in-Desc.ensures in
-    stepped z _ _ v _ _ _ _ _ r.0 (may_look z v c.args.cell c.make-word.result c.requires.relies.now.knows c.requires.cell) c.make-word.ensures
-
-pub returns-in-Desc-clause-leads : goal.returns-in-Desc-clause-leads
-returns-in-Desc-clause-leads g c =
-    let z = c.args.shape.now in
-    let v = c.args.side.now.known.view in
-    let r = reads_desc z v c.args.cell c.make-word.result c.requires.clear c.in-Desc.desc c.in-Desc.ensures in
-    looks z _ _ (On (looking.Help (work.Control c.in-Desc.desc))) c.make-word.ensures.view_is r.1
+    let r = reads_desc z v c.args.cell c.make-word.result c.requires.looking c.in-Desc.desc c.in-Desc.ensures in record {
+      made = stepped z _ _ v _ _ _ _ _ r.0 (may_look z v c.args.cell c.make-word.result c.requires.relies.now.knows c.requires.cell) c.make-word.ensures;
+      leads = looks z _ _ (On (looking.Help (work.Control c.in-Desc.desc))) c.make-word.ensures.view_is r.1;
+      ends = λ is. cc;
+    }
