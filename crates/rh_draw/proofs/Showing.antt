@@ -1,5 +1,6 @@
 -- What contents show that stand beside each other, and what the whole picture shows.
-use Rattle.std.proofs.Common.{◌≡◌, ◌≢◌, ℕ, ◌+◌, ◌/◌, ◌<◌, ◌≤◌, ◌==◌, Bool, true, false, if◌then◌else◌, List, [], ◌∷◌, ◌++◌, codes, decimal, slice_index, length, get_or, take, drop, drop-cons, Result, Ok, Err, refl, ap, append_assoc, append-nil, add-one, arith, flat_map}
+use Rattle.std.proofs.Common.{◌≡◌, ◌≢◌, ℕ, ◌+◌, ◌<◌, ◌≤◌, ◌==◌, Bool, true, false, if◌then◌else◌, List, [], ◌∷◌, ◌++◌, codes, decimal, slice_index, length, get_or, take, drop, drop-cons, Option, Some, None, Vec, Result, Ok, Err, refl, ap, subst, append_assoc, append-nil, add-one, arith, flat_map}
+use Rattle.std.specs.Global.{Global}
 use Rattle.std.proofs.lemmas.Grind.{common_steps, flat_map-append}
 use Rattle.std.proofs.lemmas.Bool.Decides.{nat_tests}
 use Rattle.std.proofs.lemmas.List.{take_more}
@@ -11,13 +12,12 @@ use Rattle.rh_svg.specs.declared.tags.Tag.{Tag}
 use Rattle.rh_svg.specs.declared.tags.Tag.TheVariants.{Svg, Label}
 use Rattle.rh_draw.specs.Changing.{LeaveAll, opening}
 use Rattle.rh_draw.specs.Columns.{ColumnsAreChanges}
-use Rattle.rh_draw.specs.Heads.{column_head, head_row, repeated}
+use Rattle.rh_draw.specs.Heads.{column_head, head_row, repeated, title_lines}
 use Rattle.rh_draw.specs.Notices.{AreTold, notice}
 use Rattle.rh_draw.specs.Picture.{IsPicture, legend_lines, legend_marks}
 use Rattle.rh_draw.specs.Places.{lane_x}
 use Rattle.rh_draw.specs.Reading.{Draws, Shows, head, is_head, line, mark, read}
-use Rattle.rh_draw.specs.Rows.{mark_of, row_lines}
-use Rattle.rh_draw.specs.declared.limits.TheConstants.{HEAD_STEPS}
+use Rattle.rh_draw.specs.Rows.{at_after, at_first, mark_of, record_lines, row_lines}
 use Rattle.rh_draw.specs.declared.records.Record.{Record}
 use Rattle.rh_draw.specs.declared.records.Window.{Window}
 
@@ -146,6 +146,40 @@ more f g xs i d lt before here = rw (one_more f xs i d lt, one_more g xs i d lt)
 pub all_of : {X Y : Type 0} → (f : X → List Y) (xs : List X) (i : ℕ) → length xs ≤ i → flat_map f (take i xs) ≡ flat_map f xs
 all_of f xs i past = let all : take i xs ≡ xs = grind (arith, common_steps) in rw all refl
 
+pub one_title : {a b c : List ℕ} (title : List (Vec ℕ Global)) (i : ℕ) (line : Vec ℕ Global) → i < length title → line ≡ get_or title i line →
+    Shows a b [] [] (title_lines (take i title)) → Shows b c [] [] (line.items ∷ []) → Shows a c [] [] (title_lines (take (i + 1) title))
+one_title {b = b} {c = c} title i line lt is before here =
+    rw (one_more (λ one. one.items ∷ []) title i line lt) (both before (subst (λ (one : Vec ℕ Global). Shows b c [] [] (one.items ∷ [])) is here))
+
+-- ---- the rows of records
+
+-- what is so of no owner is so of None alone
+pub none_alone : (P : Option ℕ → Type 0) → ((owner : ℕ) → P (Some owner) → ⊥) → (whose : Option ℕ) → P whose → whose ≡ None
+none_alone P not None p = refl
+none_alone P not (Some owner) p = absurd (not owner p)
+
+-- Those of the first records were drawn: with what the others have, it is all that they have.
+abbrev pub RowsDrawn : Window → (workers : ℕ) → (given : List Record) → (whole : List Tag) → (i : ℕ) → (whose : List (Option ℕ)) → (a b : List ℕ) → Type 0
+RowsDrawn window workers given whole i whose a b =
+    (done : List Tag) × Shows a b (flat_map (mark_of window) (take i given)) done [] × (done ++ row_lines window workers whose (drop i given) ≡ whole)
+
+pub one_row : {a b c : List ℕ} (window : Window) (workers : ℕ) (given : List Record) (i : ℕ) (d : Record) (whose next : List (Option ℕ))
+    (whole : List Tag) → i < length given → next ≡ at_after whose (get_or given i d) → RowsDrawn window workers given whole i whose a b →
+    Shows b c (mark_of window (get_or given i d)) (record_lines window workers next (get_or given i d)) [] →
+    RowsDrawn window workers given whole (i + 1) next a c
+one_row window workers given i d whose next whole lt goes before here = (
+  before.0 ++ record_lines window workers next (get_or given i d),
+  rw (one_more (mark_of window) given i d lt) (both before.1 here),
+  rw (append_assoc, goes, add-one) (rw (drop-cons given i d lt) at before.2),
+)
+
+pub all_rows : {a b : List ℕ} (window : Window) (workers : ℕ) (given : List Record) (i : ℕ) (whose : List (Option ℕ)) (whole : List Tag) →
+    length given ≤ i → RowsDrawn window workers given whole i whose a b → Shows a b (flat_map (mark_of window) given) whole []
+all_rows window workers given i whose whole past before =
+    let none : drop i given ≡ [] = grind (arith, common_steps) in
+    let same : before.0 ≡ whole = rw (none, append-nil) at before.2 in
+    rw (all_of (mark_of window) given i past, same) at before.1
+
 -- ---- lines that are told of records
 
 module _ (z : Shape) (window : Window) (right : ℕ) (Told : List Tag → Type 0) where
@@ -166,32 +200,37 @@ module _ (z : Shape) (window : Window) (right : ℕ) (Told : List Tag → Type 0
 
 -- ---- the whole
 
-pub a_picture : (z there : Shape) (cells : List ℕ) (given : List Record) (window here : Window) (flags : List ℕ) (right last width height : ℕ)
-    (a b c d : List ℕ) (told : List Tag) → there ≡ z → here ≡ window → length flags ≡ length cells → ColumnsAreChanges z cells given window flags →
-    lane_x there.workers ≤ right → a ≡ [] → b ≡ a ++ start_tag (Svg width height) → AreTold there here right (opening there cells) given told →
-    Shows b c (legend_marks ++ flat_map (mark_of here) given) (legend_lines ++ (told ++ flat_map (row_lines here right) given))
-    (repeated (head_row there.workers flags) (last / HEAD_STEPS + 1)) → d ≡ c ++ end_tag (Svg width height) → IsPicture z cells given window d
-a_picture z there cells given window here flags right last width height a b c d told same_shape same_window long columns wide nothing opened are_told shows closed =
+pub framed : {a b c d : List ℕ} {m l n k : List Tag} {h i : List (List ℕ)} → Shows a b m l h → Shows b c [] [] [] → Shows c d n k i →
+    Shows a d (m ++ n) (l ++ k) (h ++ i)
+framed frame boxes more = both (simp append-nil at (both frame boxes)) more
+
+pub a_picture : (title : List (Vec ℕ Global)) (z there : Shape) (cells : List ℕ) (given : List Record) (window here : Window) (flags : List ℕ)
+    (right times width height : ℕ) (a b c d : List ℕ) (told : List Tag) → there ≡ z → here ≡ window → length flags ≡ length cells →
+    ColumnsAreChanges z cells given window flags → lane_x z.workers ≤ right → a ≡ [] → b ≡ a ++ start_tag (Svg width height) →
+    AreTold there here right (opening there cells) given told →
+    Shows b c (legend_marks ++ flat_map (mark_of here) given) (legend_lines ++ (told ++ row_lines here there.workers (at_first there.workers) given))
+    (title_lines title ++ repeated (head_row there.workers flags) (times + 1)) → d ≡ c ++ end_tag (Svg width height) → IsPicture title z cells given window d
+a_picture title z there cells given window here flags right times width height a b c d told same_shape same_window long columns wide empty opened are_told shows closed =
     let tag : Tag = Svg width height in
     record {
       width = width;
       height = height;
       inside = shows.content;
-      text_is = rw (closed, shows.text, opened, nothing, render-element tag shows.content) (append_assoc (start_tag tag) (render shows.content) (end_tag tag));
+      text_is = rw (closed, shows.text, opened, empty, render-element tag shows.content) (append_assoc (start_tag tag) (render shows.content) (end_tag tag));
       marks_are_steps = rw same_window at shows.marks_are;
       right = right;
-      across = rw same_shape at wide;
+      across = wide;
       told = told;
       are_told = rw (same_window, same_shape) at are_told;
-      lines_are = rw same_window at shows.lines_are;
+      lines_are = rw (same_window, same_shape) at shows.lines_are;
       flags = flags;
       long = long;
       columns_are_changes = columns;
-      times = last / HEAD_STEPS + 1;
+      times = times + 1;
       some = omega arith;
       heads_are = rw same_shape at shows.heads_are;
     }
 
-pub well_formed : {z : Shape} {cells : List ℕ} {given : List Record} {window : Window} {text : List ℕ} → IsPicture z cells given window text →
+pub well_formed : {title : List (Vec ℕ Global)} {z : Shape} {cells : List ℕ} {given : List Record} {window : Window} {text : List ℕ} → IsPicture title z cells given window text →
     IsWellFormed text
 well_formed picture = record { tag = Svg picture.width picture.height; inside = picture.inside; whole = picture.text_is }

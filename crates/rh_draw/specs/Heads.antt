@@ -1,5 +1,10 @@
--- The heads of lanes and columns.
-use Rattle.std.specs.Prelude.{ℕ, zero, suc, ◌==◌, if◌then◌else◌, List, [], ◌∷◌, ◌++◌, codes, decimal, length, slice_index}
+-- The lines of the title, and the heads of lanes and columns.
+use Rattle.std.specs.Prelude.{ℕ, zero, suc, ◌==◌, if◌then◌else◌, List, [], ◌∷◌, ◌++◌, codes, decimal, length, slice_index, Vec}
+use Rattle.std.specs.Global.{Global}
+use Rattle.std.specs.List.{flat_map}
+
+abbrev pub title_lines : List (Vec ℕ Global) → List (List ℕ)
+title_lines title = flat_map (λ line. line.items ∷ []) title
 
 -- the lists for the numbers below a bound, one after the other
 abbrev pub below : {X : Type 0} → (ℕ → List X) → ℕ → List X

@@ -1,14 +1,15 @@
 -- What a picture of a play shows.
-use Rattle.std.specs.Prelude.{◌≡◌, ℕ, ◌<◌, ◌≤◌, List, ◌++◌, length}
+use Rattle.std.specs.Prelude.{◌≡◌, ℕ, ◌<◌, ◌≤◌, List, ◌++◌, length, Vec}
+use Rattle.std.specs.Global.{Global}
 use Rattle.std.specs.List.{flat_map}
 use Rattle.rh_words.specs.declared.shape.Shape.{Shape}
 use Rattle.rh_draw.specs.Changing.{opening}
 use Rattle.rh_draw.specs.Columns.{ColumnsAreChanges}
-use Rattle.rh_draw.specs.Heads.{head_row, repeated}
+use Rattle.rh_draw.specs.Heads.{head_row, repeated, title_lines}
 use Rattle.rh_draw.specs.Notices.{AreTold}
 use Rattle.rh_draw.specs.Places.{lane_x}
 use Rattle.rh_draw.specs.Reading.{heads, line, lines, mark, marks}
-use Rattle.rh_draw.specs.Rows.{mark_of, row_lines}
+use Rattle.rh_draw.specs.Rows.{at_first, mark_of, row_lines}
 use Rattle.rh_draw.specs.declared.legend.TheConstants.{SIGNS}
 use Rattle.rh_draw.specs.declared.records.Record.{Record}
 use Rattle.rh_draw.specs.declared.records.Window.{Window}
@@ -24,7 +25,7 @@ abbrev pub legend_lines : List Tag
 legend_lines = flat_map (λ tag. line tag Nothing) SIGNS.now
 
 -- The text is a picture of the steps of the window.
-pub record IsPicture (z : Shape) (cells : List ℕ) (given : List Record) (window : Window) (text : List ℕ) : Type 0 where
+pub record IsPicture (title : List (Vec ℕ Global)) (z : Shape) (cells : List ℕ) (given : List Record) (window : Window) (text : List ℕ) : Type 0 where
   pub width : ℕ
   pub height : ℕ
   pub inside : Content
@@ -37,11 +38,11 @@ pub record IsPicture (z : Shape) (cells : List ℕ) (given : List Record) (windo
   pub across : lane_x z.workers ≤ right
   pub told : List Tag
   pub are_told : AreTold z window right (opening z cells) given told
-  pub lines_are : lines inside ≡ legend_lines ++ (told ++ flat_map (row_lines window right) given)
+  pub lines_are : lines inside ≡ legend_lines ++ (told ++ row_lines window z.workers (at_first z.workers) given)
   pub flags : List ℕ
   pub long : length flags ≡ length cells
   pub columns_are_changes : ColumnsAreChanges z cells given window flags
-  -- the heads of the lanes and of these columns, in their order, and again as often as the picture is long
+  -- the title, and the heads of the lanes and of these columns, in their order, and again as often as the picture is long
   pub times : ℕ
   pub some : 0 < times
-  pub heads_are : heads inside ≡ repeated (head_row z.workers flags) times
+  pub heads_are : heads inside ≡ title_lines title ++ repeated (head_row z.workers flags) times

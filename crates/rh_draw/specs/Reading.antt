@@ -2,7 +2,7 @@
 use Rattle.std.specs.Prelude.{◌≡◌, ℕ, Bool, true, false, if◌then◌else◌, List, [], ◌∷◌, ◌++◌, Result, OnOk}
 use Rattle.rh_svg.specs.Markup.{Content, Nothing, Text, Element, render}
 use Rattle.rh_svg.specs.declared.looks.Look.{Look}
-use Rattle.rh_svg.specs.declared.looks.Look.TheVariants.{Head, Lane}
+use Rattle.rh_svg.specs.declared.looks.Look.TheVariants.{Head, Lane, Title}
 use Rattle.rh_svg.specs.declared.tags.Tag.{Tag}
 use Rattle.rh_svg.specs.declared.tags.Tag.TheVariants.{Label, Line, Mark}
 
@@ -27,6 +27,7 @@ line tag inside = []
 
 abbrev pub is_head : Look → Bool
 is_head Head = true
+is_head Title = true
 is_head look = false
 
 abbrev pub texts : Content → List (List ℕ)
@@ -34,7 +35,7 @@ texts Nothing = []
 texts (Text text after) = text ∷ texts after
 texts (Element tag inside after) = texts after
 
--- what the head of a lane or a column says
+-- what the head of a lane or a column says, or a line of the title
 abbrev pub head : Tag → Content → List (List ℕ)
 head (Label x y look) inside = if is_head look then texts inside else []
 head tag inside = []

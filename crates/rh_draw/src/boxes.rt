@@ -1,14 +1,14 @@
 //! What stands in the cells from one moment to another.
 #![tactic(auto, using(crate::proofs::Showing::nothing))]
 
-ghost use Rattle.std.specs.Prelude.{◌<◌, ◌^◌};
 ghost use Rattle.rh_draw.specs.Reading.{DrawsPlain};
 
 use crate::canvas::Canvas;
-use crate::limits::{COLUMN, GAP, INDENT, TEXT};
+use crate::limits::{GAP, HEAD_STEPS, INDENT, TEXT};
 use crate::lists::at;
-use crate::places::{column_x, moment_y};
-use crate::sight::{Sight, View};
+use crate::places::{head_y, moment_y};
+use crate::sight::View;
+use crate::spans::Span;
 use rh_svg::{Look, Tag, leaf};
 use rh_tagword::{Word, unpack};
 use std::alloc::AllocError;
@@ -23,81 +23,69 @@ fn look_of(word: u64) -> Look {
     }
 }
 
-/// What stood in a cell until a moment, since its word or its value last changed.
-pub(crate) fn draw_box(
-    canvas: &mut Canvas,
-    view: &View,
-    sight: &Sight,
-    until: u64,
-    cell: u64,
-) -> Result<(), AllocError>
+/// The boxes of these spans, with their words.
+pub(crate) fn draw_boxes(canvas: &mut Canvas, view: &View, spans: &[Span]) -> Result<(), AllocError>
     ensures { DrawsPlain canvas.old.out.items canvas.new.out.items result }
 {
-    let x = column_x(view.shape.workers as u64, at(&view.places, cell));
-    let y = moment_y(at(&sight.since, cell));
-    let word = at(&sight.words, cell);
-    let tag = Tag::Box {
-        x: x + GAP,
-        y,
-        width: COLUMN - 2 * GAP,
-        height: moment_y(until).saturating_sub(y),
-        look: look_of(word),
-    };
-    leaf(&mut canvas.out, tag)?;
-    let label = Tag::Label {
-        x: x + INDENT,
-        y: y + TEXT,
-        look: Look::Word,
-    };
-    canvas.say_word(label, word)?;
-    draw_value(canvas, x, y, word, at(&sight.values, cell))
-}
-
-// The value, where the word does not say it.
-fn draw_value(canvas: &mut Canvas, x: u64, y: u64, word: u64, value: u64) -> Result<(), AllocError>
-    requires x { x < 2 ^ 32 }
-    requires y { y < 2 ^ 32 }
-    ensures { DrawsPlain canvas.old.out.items canvas.new.out.items result }
-{
-    if word == value {
-        return Ok(());
-    }
-    let label = Tag::Label {
-        x: x + INDENT,
-        y: y + 2 * TEXT,
-        look: Look::Value,
-    };
-    canvas.say_word(label, value)
-}
-
-/// Those of these cells.
-pub(crate) fn draw_boxes(
-    canvas: &mut Canvas,
-    view: &View,
-    sight: &Sight,
-    until: u64,
-    cells: &[u64],
-) -> Result<(), AllocError>
-    ensures { DrawsPlain canvas.old.out.items canvas.new.out.items result }
-{
-    for cell in cells {
-        draw_box(canvas, view, sight, until, *cell)?;
+    for span in spans {
+        draw_box(canvas, view, *span)?;
+        draw_again(canvas, view, *span)?;
     }
     Ok(())
 }
 
-/// Those of each cell that has a column, until the end.
-pub(crate) fn draw_last_boxes(
-    canvas: &mut Canvas,
-    view: &View,
-    sight: &Sight,
-) -> Result<(), AllocError>
+fn draw_box(canvas: &mut Canvas, view: &View, span: Span) -> Result<(), AllocError>
     ensures { DrawsPlain canvas.old.out.items canvas.new.out.items result }
 {
-    for (cell, flag) in view.flags.iter().enumerate() {
-        if *flag != 0 {
-            draw_box(canvas, view, sight, view.end, cell as u64)?;
-        }
+    let x = at(&view.sides, span.cell);
+    let y = moment_y(span.since);
+    let tag = Tag::Box {
+        x: x.saturating_add(GAP),
+        y,
+        width: at(&view.widths, span.cell).saturating_sub(2 * GAP),
+        height: moment_y(span.until).saturating_sub(y),
+        look: look_of(span.word),
+    };
+    leaf(&mut canvas.out, tag)?;
+    draw_words(canvas, x, y, span)
+}
+
+// The word below this height, and the value.
+fn draw_words(canvas: &mut Canvas, x: u64, y: u64, span: Span) -> Result<(), AllocError>
+    ensures { DrawsPlain canvas.old.out.items canvas.new.out.items result }
+{
+    let label = Tag::Label {
+        x: x.saturating_add(INDENT),
+        y: y.saturating_add(TEXT),
+        look: Look::Word,
+    };
+    canvas.say_word(label, span.word)?;
+    draw_value(canvas, x, y, span)
+}
+
+// The value, where the word does not say it.
+fn draw_value(canvas: &mut Canvas, x: u64, y: u64, span: Span) -> Result<(), AllocError>
+    ensures { DrawsPlain canvas.old.out.items canvas.new.out.items result }
+{
+    if span.word == span.value {
+        return Ok(());
+    }
+    let label = Tag::Label {
+        x: x.saturating_add(INDENT),
+        y: y.saturating_add(2 * TEXT),
+        look: Look::Value,
+    };
+    canvas.say_word(label, span.value)
+}
+
+// They stand again below each head of the column that the box reaches.
+fn draw_again(canvas: &mut Canvas, view: &View, span: Span) -> Result<(), AllocError>
+    ensures { DrawsPlain canvas.old.out.items canvas.new.out.items result }
+{
+    let x = at(&view.sides, span.cell);
+    let first = span.since.div_ceil(HEAD_STEPS).max(1);
+    for part in first..span.until.div_ceil(HEAD_STEPS) {
+        draw_words(canvas, x, head_y(part), span)?;
     }
     Ok(())
 }

@@ -1,10 +1,12 @@
 //! Which cells have a column, and where.
 
-ghost use Rattle.std.specs.Prelude.{◌≡◌, ◌<◌, ℕ, OnOk, length, slice_index};
+ghost use Rattle.std.specs.Prelude.{◌≡◌, ◌<◌, ◌≤◌, ℕ, OnOk, length, slice_index};
 ghost use Rattle.rh_draw.specs.Changing.{IsChanged};
 ghost use Rattle.rh_draw.specs.Columns.{Flags, FlagsStep};
 
 use crate::changes::{list_changes, put_all};
+use crate::limits::{INDENT, LETTER, MAX_LETTERS};
+use crate::lists::at;
 use crate::records::{Record, Window};
 use crate::words::follow_words;
 use rh_trace::Traced;
@@ -52,26 +54,52 @@ fn flag_step(
     Ok(())
 }
 
-/// How many columns there are.
-pub(crate) fn column_count(flags: &[u64]) -> u64 {
-    let mut count = 0;
-    for flag in flags {
-        if *flag != 0 {
-            count += 1;
-        }
-    }
-    count
+/// How wide the column of a cell is whose longest text has so many letters: its head has room too.
+fn column_width(cell: u64, letters: u64) -> u64 {
+    let head = 6 + cell.checked_ilog10().unwrap_or(0) as u64;
+    2 * INDENT + LETTER * letters.max(head).min(MAX_LETTERS)
 }
 
-/// For each cell, how many columns are to the left of its own.
-pub(crate) fn place_columns(alloc: Global, flags: &[u64]) -> Result<Vec<u64>, AllocError> {
-    let mut places = Vec::new(alloc);
-    let mut count = 0;
-    for flag in flags {
-        places.push(count)?;
-        if *flag != 0 {
-            count += 1;
+/// How wide each column is, by the letters of its longest text; 0 where a cell has none.
+pub(crate) fn column_widths(
+    alloc: Global,
+    flags: &[u64],
+    letters: &[u64],
+) -> Result<Vec<u64>, AllocError> {
+    let mut widths = Vec::new(alloc);
+    for (cell, flag) in flags.iter().enumerate() {
+        let cell = cell as u64;
+        if *flag == 0 {
+            widths.push(0)?;
+        } else {
+            widths.push(column_width(cell, at(letters, cell)))?;
         }
     }
-    Ok(places)
+    Ok(widths)
+}
+
+/// Where the left side of each column stands, beside those before it, from this place on.
+pub(crate) fn column_sides(
+    alloc: Global,
+    widths: &[u64],
+    left: u64,
+) -> Result<Vec<u64>, AllocError> {
+    let mut sides = Vec::new(alloc);
+    let mut side = left;
+    for width in widths {
+        sides.push(side)?;
+        side = side.saturating_add(*width);
+    }
+    Ok(sides)
+}
+
+/// The right side of the last of them.
+pub(crate) fn right_side(widths: &[u64], left: u64) -> u64
+    ensures { left ≤ result }
+{
+    let mut side = left;
+    for width in widths {
+        side = side.saturating_add(*width);
+    }
+    side
 }

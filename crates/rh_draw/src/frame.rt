@@ -1,8 +1,9 @@
 //! What a picture has beside its steps: background, style sheet, legend, lanes; and the heads.
 #![tactic(auto, using(crate::proofs::Showing::nothing))]
 
-ghost use Rattle.std.specs.Prelude.{◌+◌, ◌/◌, [], ◌∷◌, ◌++◌, codes, decimal, length};
+ghost use Rattle.std.specs.Prelude.{◌+◌, ◌-◌, ◌/◌, ◌^◌, ◌≤◌, [], ◌∷◌, ◌++◌, codes, decimal, length};
 ghost use Rattle.rh_draw.specs.Heads.{below, column_head, head_row, lane_head, repeated};
+ghost use Rattle.rh_draw.specs.Heads.{title_lines};
 ghost use Rattle.rh_draw.specs.Reading.{Draws, DrawsPlain, line, mark};
 ghost use Rattle.rh_svg.specs.Markup.{Nothing};
 ghost use Rattle.std.specs.List.{flat_map};
@@ -11,31 +12,71 @@ ghost use Rattle.rh_draw.specs.Picture.{legend_lines, legend_marks};
 use crate::canvas::Canvas;
 use crate::legend::{CAPTIONS, Caption, OUTLINES, SIGNS, STYLE};
 use crate::limits::{
-    BOTTOM, COLUMN, HEAD_RISE, HEAD_STEPS, INDENT, LEGEND_WIDTH, LETTER, MAX_LETTERS, TOP,
+    BOTTOM, HEAD_STEPS, INDENT, LEGEND_WIDTH, LETTER, MAX_LETTERS, NUMBERS, TEXT, TITLE, TOP,
 };
 use crate::lists::at;
-use crate::places::{column_x, lane_x, moment_y};
+use crate::places::{head_y, lane_x, moment_y};
 use crate::sight::View;
 use rh_svg::{Look, Tag, close, labelled, leaf, open};
 use std::alloc::AllocError;
 
-/// How wide and how high a picture is, where the longest of what is said has so many letters.
-pub(crate) fn picture_size(view: &View, letters: u64) -> (u64, u64) {
-    let right = column_x(view.shape.workers as u64, view.columns);
-    let said = 2 * INDENT + LETTER * letters.min(MAX_LETTERS);
+/// How wide and how high a picture is, where the longest of what is said has so many letters, and
+/// the longest line of the title so many.
+pub(crate) fn picture_size(view: &View, said: u64, title: u64) -> (u64, u64) {
+    let right = view.right.saturating_add(room_for(said));
     (
-        (right + said).max(LEGEND_WIDTH),
+        right.max(LEGEND_WIDTH + room_for(title)),
         moment_y(view.end) + BOTTOM,
     )
 }
 
-/// All of it but the heads.
+// How wide so many letters are, with what stands beside them.
+fn room_for(letters: u64) -> u64
+    ensures { result ≤ 2 ^ 40 }
+{
+    2 * INDENT + LETTER * letters.min(MAX_LETTERS)
+}
+
+/// How many letters the longest of these lines has.
+pub(crate) fn longest(lines: &[Vec<u8>]) -> u64 {
+    let mut most = 0u64;
+    for line in lines {
+        most = most.max(line.len() as u64);
+    }
+    most
+}
+
+// The title: its first line above the legend, the others beside it.
+fn draw_title(out: &mut Vec<u8>, title: &[Vec<u8>]) -> Result<(), AllocError>
+    ensures { Draws out.old.items out.new.items [] []
+        (title_lines title.now) result }
+{
+    let mut number = 0u64;
+    for line in title {
+        let tag = Tag::Label {
+            x: if number == 0 {
+                NUMBERS
+            } else {
+                LEGEND_WIDTH + INDENT
+            },
+            y: TITLE.saturating_add(TEXT.saturating_mul(number.saturating_sub(1))),
+            look: Look::Title,
+        };
+        labelled(out, tag, line)?;
+        number = number.saturating_add(1);
+    }
+    Ok(())
+}
+
+/// All of it but the heads of lanes and columns.
 pub(crate) fn draw_frame(
     canvas: &mut Canvas,
+    title: &[Vec<u8>],
     view: &View,
     size: (u64, u64),
 ) -> Result<(), AllocError>
-    ensures { Draws canvas.old.out.items canvas.new.out.items legend_marks legend_lines [] result }
+    ensures { Draws canvas.old.out.items canvas.new.out.items legend_marks legend_lines
+        (title_lines title.now) result }
 {
     let (width, height) = size;
     let ground = Tag::Box {
@@ -47,6 +88,7 @@ pub(crate) fn draw_frame(
     };
     leaf(&mut canvas.out, ground)?;
     draw_fixed(&mut canvas.out)?;
+    draw_title(&mut canvas.out, title)?;
     draw_lanes(canvas, view.shape.workers as u64, moment_y(view.end))
 }
 
@@ -116,11 +158,10 @@ fn draw_lanes(canvas: &mut Canvas, workers: u64, bottom: u64) -> Result<(), Allo
 pub(crate) fn draw_all_heads(canvas: &mut Canvas, view: &View) -> Result<(), AllocError>
     ensures { Draws canvas.old.out.items canvas.new.out.items [] []
         (repeated (head_row view.now.shape.workers view.now.flags.items)
-        (view.now.end / HEAD_STEPS + 1)) result }
+        ((view.now.end - 1) / HEAD_STEPS + 1)) result }
 {
-    for part in 0..view.end / HEAD_STEPS + 1 {
-        let y = moment_y(part.saturating_mul(HEAD_STEPS)) - HEAD_RISE;
-        draw_heads(canvas, view, y)?;
+    for part in 0..view.end.saturating_sub(1) / HEAD_STEPS + 1 {
+        draw_heads(canvas, view, head_y(part))?;
     }
     Ok(())
 }
@@ -166,7 +207,7 @@ fn draw_column_head(canvas: &mut Canvas, view: &View, y: u64, cell: u64) -> Resu
         return Ok(());
     }
     let label = Tag::Label {
-        x: column_x(view.shape.workers as u64, at(&view.places, cell)) + COLUMN / 2,
+        x: at(&view.sides, cell).saturating_add(at(&view.widths, cell) / 2),
         y,
         look: Look::Head,
     };

@@ -11,7 +11,7 @@ use rh_words::StepKind;
 /// Ito, which most colour-blind readers can tell apart.
 pub(crate) const STYLE: &str =
     "svg{font:10px sans-serif}text{fill:#222}use{stroke:#222;stroke-width:1}\
-.ground{fill:#fff}.number{fill:#666}\
+.ground{fill:#fff}.number{fill:#666}.title{font-weight:bold}\
 .head{font-weight:bold;font-size:9px;text-anchor:middle;stroke:#fff;stroke-width:3px;\
 paint-order:stroke}\
 .w0{fill:#e69f00;stroke:#e69f00}.w1{fill:#56b4e9;stroke:#56b4e9}.w2{fill:#009e73;stroke:#009e73}\
@@ -46,12 +46,16 @@ pub(crate) const OUTLINES: &[Tag] = &[
 pub(crate) enum Says {
     Kind(StepKind),
     Help,
+    Mark,
+    Desc,
+    Empty,
+    Key,
     Act,
     Decision,
     Late,
     Round,
-    Mark,
-    Desc,
+    Number,
+    Step,
     Italic,
     Value,
 }
@@ -70,6 +74,7 @@ impl Says {
         ensures { is_head result ≡ false }
     {
         match self {
+            Says::Number => Look::Number,
             Says::Italic => Look::Value,
             _ => Look::Word,
         }
@@ -78,13 +83,17 @@ impl Says {
     pub(crate) fn text(self) -> &'static str {
         match self {
             Says::Kind(kind) => kind_word(kind),
-            Says::Help => "step for that worker",
+            Says::Help => "about the descriptor of that worker",
+            Says::Mark => "mark W N: the mark N of worker W",
+            Says::Desc => "desc W N: the descriptor N of worker W",
+            Says::Empty => "an empty cell",
+            Says::Key => "a key",
             Says::Act => "act: the descriptor succeeds",
-            Says::Decision => "another decision",
+            Says::Decision => "it is withdrawn, or failed W: so W saw",
             Says::Late => "late promotion of a mark",
             Says::Round => "a further round begins",
-            Says::Mark => "mark of that worker",
-            Says::Desc => "descriptor of that worker",
+            Says::Number => "12",
+            Says::Step => "the number of a step",
             Says::Italic => "italic",
             Says::Value => "what the cell stands for",
         }
@@ -95,96 +104,110 @@ impl Says {
 pub(crate) const SIGNS: &[Tag] = &[
     Tag::Mark {
         x: 18,
-        y: 18,
+        y: 40,
         kind: StepKind::Write,
     },
     Tag::Mark {
         x: 112,
-        y: 18,
+        y: 40,
         kind: StepKind::Open,
     },
     Tag::Mark {
         x: 206,
-        y: 18,
+        y: 40,
         kind: StepKind::Read,
     },
     Tag::Mark {
         x: 300,
-        y: 18,
+        y: 40,
         kind: StepKind::Place,
     },
     Tag::Mark {
         x: 18,
-        y: 40,
+        y: 62,
         kind: StepKind::Settle,
     },
     Tag::Mark {
         x: 112,
-        y: 40,
+        y: 62,
         kind: StepKind::Decide,
     },
     Tag::Mark {
         x: 206,
-        y: 40,
+        y: 62,
         kind: StepKind::Release,
     },
     Tag::Mark {
         x: 300,
-        y: 40,
+        y: 62,
         kind: StepKind::Claim,
     },
     Tag::Line {
         x: 12,
-        y: 62,
+        y: 84,
         to_x: 42,
-        to_y: 62,
+        to_y: 84,
         look: Look::Help(0),
     },
     Tag::Dot {
         x: 42,
-        y: 62,
+        y: 84,
         look: Look::Help(0),
-    },
-    Tag::Line {
-        x: 200,
-        y: 62,
-        to_x: 230,
-        to_y: 62,
-        look: Look::Act,
     },
     Tag::Box {
         x: 12,
-        y: 74,
+        y: 96,
         width: 30,
         height: 12,
         look: Look::Mark(0),
     },
-    Tag::Line {
-        x: 200,
-        y: 80,
-        to_x: 230,
-        to_y: 80,
-        look: Look::Decision,
-    },
     Tag::Box {
         x: 12,
-        y: 92,
+        y: 114,
         width: 30,
         height: 12,
         look: Look::Desc(0),
     },
+    Tag::Box {
+        x: 12,
+        y: 132,
+        width: 30,
+        height: 12,
+        look: Look::Empty,
+    },
+    Tag::Box {
+        x: 12,
+        y: 150,
+        width: 30,
+        height: 12,
+        look: Look::Key,
+    },
     Tag::Line {
-        x: 200,
-        y: 98,
-        to_x: 230,
-        to_y: 98,
+        x: 310,
+        y: 84,
+        to_x: 340,
+        to_y: 84,
+        look: Look::Act,
+    },
+    Tag::Line {
+        x: 310,
+        y: 102,
+        to_x: 340,
+        to_y: 102,
+        look: Look::Decision,
+    },
+    Tag::Line {
+        x: 310,
+        y: 120,
+        to_x: 340,
+        to_y: 120,
         look: Look::Late,
     },
     Tag::Line {
-        x: 200,
-        y: 116,
-        to_x: 230,
-        to_y: 116,
+        x: 310,
+        y: 138,
+        to_x: 340,
+        to_y: 138,
         look: Look::Round,
     },
 ];
@@ -193,87 +216,107 @@ pub(crate) const SIGNS: &[Tag] = &[
 pub(crate) const CAPTIONS: &[Caption] = &[
     Caption {
         x: 32,
-        y: 22,
+        y: 44,
         says: Says::Kind(StepKind::Write),
     },
     Caption {
         x: 126,
-        y: 22,
+        y: 44,
         says: Says::Kind(StepKind::Open),
     },
     Caption {
         x: 220,
-        y: 22,
+        y: 44,
         says: Says::Kind(StepKind::Read),
     },
     Caption {
         x: 314,
-        y: 22,
+        y: 44,
         says: Says::Kind(StepKind::Place),
     },
     Caption {
         x: 32,
-        y: 44,
+        y: 66,
         says: Says::Kind(StepKind::Settle),
     },
     Caption {
         x: 126,
-        y: 44,
+        y: 66,
         says: Says::Kind(StepKind::Decide),
     },
     Caption {
         x: 220,
-        y: 44,
+        y: 66,
         says: Says::Kind(StepKind::Release),
     },
     Caption {
         x: 314,
-        y: 44,
+        y: 66,
         says: Says::Kind(StepKind::Claim),
     },
     Caption {
         x: 52,
-        y: 66,
+        y: 88,
         says: Says::Help,
     },
     Caption {
-        x: 238,
-        y: 66,
-        says: Says::Act,
-    },
-    Caption {
         x: 52,
-        y: 84,
+        y: 106,
         says: Says::Mark,
     },
     Caption {
-        x: 238,
-        y: 84,
-        says: Says::Decision,
-    },
-    Caption {
         x: 52,
-        y: 102,
+        y: 124,
         says: Says::Desc,
     },
     Caption {
-        x: 238,
-        y: 102,
+        x: 52,
+        y: 142,
+        says: Says::Empty,
+    },
+    Caption {
+        x: 52,
+        y: 160,
+        says: Says::Key,
+    },
+    Caption {
+        x: 348,
+        y: 88,
+        says: Says::Act,
+    },
+    Caption {
+        x: 348,
+        y: 106,
+        says: Says::Decision,
+    },
+    Caption {
+        x: 348,
+        y: 124,
         says: Says::Late,
     },
     Caption {
+        x: 348,
+        y: 142,
+        says: Says::Round,
+    },
+    Caption {
+        x: 310,
+        y: 160,
+        says: Says::Number,
+    },
+    Caption {
+        x: 348,
+        y: 160,
+        says: Says::Step,
+    },
+    Caption {
         x: 12,
-        y: 120,
+        y: 178,
         says: Says::Italic,
     },
     Caption {
         x: 52,
-        y: 120,
+        y: 178,
         says: Says::Value,
-    },
-    Caption {
-        x: 238,
-        y: 120,
-        says: Says::Round,
     },
 ];

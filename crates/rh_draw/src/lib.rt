@@ -15,12 +15,12 @@
 //!   (`columns_are_changes`). It changes its word where it is a step on the cell, and left another
 //!   word than it found. It changes its value where a descriptor succeeds at it, and an entry of
 //!   that descriptor is for the cell and has another new word than its old one. The picture has the
-//!   heads of its lanes and of these columns, in their order, once or several times, and no others
-//!   (`heads_are`).
+//!   lines of its title, and then the heads of its lanes and of these columns, in their order, once
+//!   or several times, and no others (`heads_are`).
 //! - Each decision has a line across all lanes, and an act one of its own look. So has each swap of
 //!   a cell to a descriptor that was decided before, and each round that begins there. A step about
-//!   another worker's descriptor or mark has a line to the lane of that worker. There is no other
-//!   line but the lanes and those of the legend (`lines_are`).
+//!   another worker's descriptor or mark has a line to the lane of that worker (`helped`). There is
+//!   no other line but the lanes and those of the legend (`lines_are`).
 //! - `fixed_numbers`: the most steps of a picture; no two lanes and no two moments stand at one
 //!   place.
 //! - `steps_from`: how many steps there are from a number on, by which a caller can see whether
@@ -46,6 +46,7 @@ mod places;
 mod records;
 mod rows;
 mod sight;
+mod spans;
 mod words;
 
 pub use drawing::draw;

@@ -6,7 +6,6 @@ ghost use Rattle.std.specs.Prelude.{◌≡◌, ◌<◌, [], IfOk};
 ghost use Rattle.rh_words.specs.Parts.{cell_count};
 ghost use Rattle.rh_draw.specs.Changes.{decided};
 ghost use Rattle.rh_draw.specs.Notices.{decision_look, desc_named, is_over, late, late_look, notice_line, notice_look, promoted};
-ghost use Rattle.rh_draw.specs.Places.{column_x};
 ghost use Rattle.rh_draw.specs.Reading.{Draws};
 ghost use Rattle.rh_tagword.specs.Control.{control_in};
 ghost use Rattle.rh_tagword.specs.Word.{word_in};
@@ -15,7 +14,7 @@ use crate::canvas::Canvas;
 use crate::changes::{decided, entry_count, is_act};
 use crate::limits::{HALF_LETTER, INDENT, LANE, LEFT};
 use crate::lists::at;
-use crate::places::{column_x, moment_y};
+use crate::places::moment_y;
 use crate::sight::{Sight, View};
 use crate::words::word_at;
 use itoa::Buffer;
@@ -35,7 +34,7 @@ pub(crate) fn draw_notice(
     touched: Touched,
 ) -> Result<(), AllocError>
     ensures { Draws canvas.old.out.items canvas.new.out.items []
-        (notice_line (column_x view.now.shape.workers view.now.columns) moment
+        (notice_line view.now.right moment
         (notice_look view.now.shape sight.now.words.items touched.part touched)) [] result }
 {
     canvas.line.clear();
@@ -50,23 +49,22 @@ fn draw_line(
     look: Option<Look>,
 ) -> Result<(), AllocError>
     ensures { Draws canvas.old.out.items canvas.new.out.items []
-        (notice_line (column_x view.now.shape.workers view.now.columns) moment look) [] result }
+        (notice_line view.now.right moment look) [] result }
 {
     let Some(look) = look else {
         return Ok(());
     };
-    let x = column_x(view.shape.workers as u64, view.columns);
     let y = moment_y(moment);
     let line = Tag::Line {
         x: LEFT - LANE / 2,
         y,
-        to_x: x,
+        to_x: view.right,
         to_y: y,
         look,
     };
     leaf(&mut canvas.out, line)?;
     let label = Tag::Label {
-        x: x + INDENT,
+        x: view.right.saturating_add(INDENT),
         y: y + HALF_LETTER,
         look: Look::Saying,
     };
@@ -106,7 +104,7 @@ fn push_decision(
     }
     push_verdict(line, worker, touched.left)?;
     if is_act(touched) {
-        push_entries(line, shape, sight, worker)?;
+        push_act(line, shape, sight, worker)?;
         Ok(Some(Look::Act))
     } else {
         Ok(Some(Look::Decision))
@@ -119,6 +117,30 @@ fn push_verdict(line: &mut Vec<u8>, worker: usize, control: u64) -> Result<(), A
     let owner = buffer.format(worker).as_bytes();
     push_texts(line, &[b"desc ", owner, b" "])?;
     push_word(line, Part::Control { worker }, control)
+}
+
+// What an act changes. One that changes nothing shows that no cell from the key's home on has it.
+fn push_act(
+    line: &mut Vec<u8>,
+    shape: &Shape,
+    sight: &Sight,
+    worker: usize,
+) -> Result<(), AllocError> {
+    let before = line.len();
+    push_entries(line, shape, sight, worker)?;
+    if line.len() == before {
+        push_absence(line, sight.key)?;
+    }
+    Ok(())
+}
+
+fn push_absence(line: &mut Vec<u8>, key: Option<u64>) -> Result<(), AllocError> {
+    let Some(key) = key else {
+        return push_texts(line, &[b"; nothing changes: a key is not there"]);
+    };
+    let mut buffer = Buffer::new();
+    let key = buffer.format(key).as_bytes();
+    push_texts(line, &[b"; nothing changes: key ", key, b" is not there"])
 }
 
 fn push_entries(

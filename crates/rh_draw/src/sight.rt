@@ -1,12 +1,15 @@
 //! What stands where at a moment, and how a picture is laid out.
 
-ghost use Rattle.rh_draw.specs.Changing.{Leaves};
+ghost use Rattle.std.specs.Prelude.{◌≡◌, IfOk, length};
+ghost use Rattle.rh_words.specs.Parts.{cell_count};
+ghost use Rattle.rh_draw.specs.Changing.{Leaves, opening};
 
 use crate::changes::follow_values;
 use crate::records::Window;
-use crate::words::follow_words;
+use crate::words::{all_words, follow_words};
 use rh_trace::Touched;
 use rh_words::Shape;
+use std::alloc::{AllocError, Global};
 
 /// How a picture is laid out.
 #[derive(Drop)]
@@ -15,9 +18,11 @@ pub(crate) struct View {
     pub(crate) window: Window,
     /// For each cell, whether it has a column: 0 if not.
     pub(crate) flags: Vec<u64>,
-    /// For each cell, how many columns are to the left of its own.
-    pub(crate) places: Vec<u64>,
-    pub(crate) columns: u64,
+    /// For each cell, how wide its column is, and where its left side stands.
+    pub(crate) widths: Vec<u64>,
+    pub(crate) sides: Vec<u64>,
+    /// The right side of the last column.
+    pub(crate) right: u64,
     /// The moment at which it ends: the one after the last step.
     pub(crate) end: u64,
 }
@@ -31,9 +36,24 @@ pub(crate) struct Sight {
     pub(crate) values: Vec<u64>,
     /// For each cell, the moment since which its word and its value are these.
     pub(crate) since: Vec<u64>,
+    /// The key that the next step does, where it is known.
+    pub(crate) key: Option<u64>,
 }
 
 impl Sight {
+    /// What stands where before the first record: each cell stands for its own word.
+    pub(crate) fn new(alloc: Global, shape: &Shape, cells: &[u64]) -> Result<Sight, AllocError>
+        requires { length cells.now ≡ cell_count shape.now }
+        ensures { IfOk result (λ sight. sight.words.items ≡ opening shape.now cells.now) }
+    {
+        Ok(Sight {
+            words: all_words(alloc, shape, cells)?,
+            values: Vec::from_slice(alloc, cells)?,
+            since: vec![in alloc; 0; cells.len()]?,
+            key: None,
+        })
+    }
+
     /// Goes on to what stands after a step.
     pub(crate) fn follow(&mut self, shape: &Shape, touched: Touched)
         ensures { Leaves shape.now self.old.words.items touched self.new.words.items }

@@ -1,10 +1,9 @@
 -- What is drawn of a play that was read and recorded.
-use Rattle.std.proofs.Common.{◌≡◌, ℕ, ◌<◌, List, Option, None, Err, sym, ap, subst}
+use Rattle.std.proofs.Common.{◌≡◌, ℕ, List, Option, Vec, Err, ap, subst}
+use Rattle.std.specs.Global.{Global}
 use Rattle.std.specs.Prelude.{IsErrOf}
 use Rattle.rh_words.specs.declared.shape.Shape.{Shape}
 use Rattle.rh_draw.specs.Picture.{IsPicture}
-use Rattle.rh_draw.specs.Records.{count_from}
-use Rattle.rh_draw.specs.declared.limits.TheConstants.{MAX_STEPS}
 use Rattle.rh_draw.specs.declared.records.Record.{Record}
 use Rattle.rh_draw.specs.declared.records.Window.{Window}
 use Rattle.rh_play.specs.declared.play.Play.{Play}
@@ -12,7 +11,7 @@ use Rattle.rh_play_run.specs.declared.draw_fault.DrawFault.{DrawFault}
 use Rattle.rh_play_run.specs.declared.draw_fault.DrawFault.TheVariants as draw
 use Rattle.rh_play_run.specs.declared.fault.PlayRunFault.{PlayRunFault}
 use Rattle.rh_play_run.specs.declared.fault.PlayRunFault.TheVariants.{Read, Text, Start, Memory, Write}
-use Rattle.rh_play_run.specs.Drawing.{IsDrawnOf, IsRecorded, IsUndrawn, IsWindow}
+use Rattle.rh_play_run.specs.Drawing.{IsDrawnOf, IsRecorded, IsUnchosen, IsUndrawn, IsWindow}
 use Rattle.rh_play_run.specs.Run.{IsPlayRead, IsUnplayed, SaysGoodPlay}
 use Rattle.rh_play_run.proofs.Begun.{can_begin}
 
@@ -39,14 +38,17 @@ module _ (bytes : Option (List ℕ)) (from : ℕ) (steps : Option ℕ) (play : P
   undrawn Write why = absurd why
 
   module _ (table : Shape) (cells : List ℕ) (records those : List Record) (run : IsRecorded play table cells records) (same : those ≡ records) where
-    pub too_many : (fault : DrawFault) → (fault ≡ draw.TooMany) × (steps ≡ None) × (MAX_STEPS < count_from from those) → IsUndrawn bytes from steps fault
-    too_many fault (is, all, many) =
-        subst (IsUndrawn bytes from steps) (sym is)
-        (play, read, record { table = table; cells = cells; records = records; run = run; all = all; many = subst (λ (l : List Record). MAX_STEPS < count_from from l) same many })
+    unchosen_of : (fault : DrawFault) → IsUnchosen from steps records fault → IsUndrawn bytes from steps fault
+    unchosen_of (draw.Play fault) why = absurd why
+    unchosen_of draw.TooMany why = (play, read, record { table = table; cells = cells; records = records; run = run; why = why })
+    unchosen_of draw.NoStep why = (play, read, record { table = table; cells = cells; records = records; run = run; why = why })
 
-    pub drawn : (these : List ℕ) (again : List Record) (window : Window) (text : List ℕ) → these ≡ cells → again ≡ records → IsWindow from steps those window
-        → IsPicture table these again window text → IsDrawnOf bytes from steps text
-    drawn these again window text same_cells same_again chosen is = (
+    pub unchosen : (fault : DrawFault) → IsUnchosen from steps those fault → IsUndrawn bytes from steps fault
+    unchosen fault why = unchosen_of fault (subst (λ (l : List Record). IsUnchosen from steps l fault) same why)
+
+    pub drawn : (these : List ℕ) (again : List Record) (window : Window) (title : List (Vec ℕ Global)) (text : List ℕ) → these ≡ cells → again ≡ records → IsWindow from steps those window
+        → IsPicture title table these again window text → IsDrawnOf bytes from steps text
+    drawn these again window title text same_cells same_again chosen is = (
       play,
       read,
       record {
@@ -56,8 +58,9 @@ module _ (bytes : Option (List ℕ)) (from : ℕ) (steps : Option ℕ) (play : P
         run = run;
         window = window;
         chosen = subst (λ (l : List Record). IsWindow from steps l window) same chosen;
+        title = title;
         picture =
-            subst (λ (l : List Record). IsPicture table cells l window text) same_again
-            (subst (λ (l : List ℕ). IsPicture table l again window text) same_cells is);
+            subst (λ (l : List Record). IsPicture title table cells l window text) same_again
+            (subst (λ (l : List ℕ). IsPicture title table l again window text) same_cells is);
       },
     )

@@ -1,5 +1,6 @@
 -- The picture that is drawn of a play.
-use Rattle.std.specs.Prelude.{◌≡◌, ℕ, ◌<◌, ◌≤◌, max, List, length, take, Option, Some, None, Result, Ok, Err}
+use Rattle.std.specs.Prelude.{◌≡◌, ℕ, ◌<◌, ◌≤◌, max, List, length, take, Option, Some, None, Result, Ok, Err, Vec}
+use Rattle.std.specs.Global.{Global}
 use Rattle.std.specs.Io.KnownBytes.{Appends}
 use Rattle.rh_words.specs.declared.shape.Shape.{Shape}
 use Rattle.rh_words.specs.Parts.{cell_count}
@@ -49,16 +50,21 @@ pub record IsDrawn (play : Play) (from : ℕ) (steps : Option ℕ) (text : List 
   pub run : IsRecorded play table cells records
   pub window : Window
   pub chosen : IsWindow from steps records window
-  pub picture : IsPicture table cells records window text
+  pub title : List (Vec ℕ Global)
+  pub picture : IsPicture title table cells records window text
 
--- No steps were chosen, and the play has too many.
-pub record HasTooMany (play : Play) (from : ℕ) (steps : Option ℕ) : Type 0 where
+-- Why no picture has these steps: they were not chosen one by one, and are too many; or the play ends before the first of them.
+abbrev pub IsUnchosen : (from : ℕ) → (steps : Option ℕ) → List Record → DrawFault → Type 0
+IsUnchosen from steps records (draw.Play fault) = ⊥
+IsUnchosen from steps records draw.TooMany = (steps ≡ None) × (MAX_STEPS < count_from from records)
+IsUnchosen from steps records draw.NoStep = (1 < from) × (count_from from records ≡ 0)
+
+pub record HasNoPicture (play : Play) (from : ℕ) (steps : Option ℕ) (fault : DrawFault) : Type 0 where
   pub table : Shape
   pub cells : List ℕ
   pub records : List Record
   pub run : IsRecorded play table cells records
-  pub all : steps ≡ None
-  pub many : MAX_STEPS < count_from from records
+  pub why : IsUnchosen from steps records fault
 
 -- a picture of the play that the bytes say
 abbrev pub IsDrawnOf : (bytes : Option (List ℕ)) (from : ℕ) (steps : Option ℕ) (text : List ℕ) → Type 0
@@ -71,7 +77,8 @@ IsUndrawn bytes from steps (draw.Play (plays.Text fault)) = IsTextFault bytes fa
 IsUndrawn bytes from steps (draw.Play (plays.Start fault)) = IsRefused bytes fault
 IsUndrawn bytes from steps (draw.Play plays.Memory) = Unit {0}
 IsUndrawn bytes from steps (draw.Play plays.Write) = ⊥
-IsUndrawn bytes from steps draw.TooMany = (play : Play) × IsPlayRead bytes play × HasTooMany play from steps
+IsUndrawn bytes from steps draw.TooMany = (play : Play) × IsPlayRead bytes play × HasNoPicture play from steps draw.TooMany
+IsUndrawn bytes from steps draw.NoStep = (play : Play) × IsPlayRead bytes play × HasNoPicture play from steps draw.NoStep
 
 -- The picture or a front of it was written; or none was drawn.
 abbrev pub Draws : {X : Type 0} → (from : ℕ) (steps : Option ℕ) (bytes old new : Option (List ℕ)) → Result X DrawFault → Type 0
@@ -82,3 +89,4 @@ Draws from steps bytes old new (Err (draw.Play (plays.Text fault))) = IsTextFaul
 Draws from steps bytes old new (Err (draw.Play (plays.Start fault))) = IsRefused bytes fault
 Draws from steps bytes old new (Err (draw.Play plays.Memory)) = Unit {0}
 Draws from steps bytes old new (Err draw.TooMany) = IsUndrawn bytes from steps draw.TooMany
+Draws from steps bytes old new (Err draw.NoStep) = IsUndrawn bytes from steps draw.NoStep

@@ -15,6 +15,9 @@ pub enum DrawFault {
     /// All steps from a number on are more than one picture has.
     #[error("more than {} steps: choose some by --from STEP and --steps N", MAX_STEPS)]
     TooMany,
+    /// The play ends before the first step that was chosen.
+    #[error("no step left: the play ends before --from STEP")]
+    NoStep,
 }
 
 impl From<PlayRunFault> for DrawFault {

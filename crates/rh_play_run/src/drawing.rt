@@ -1,7 +1,6 @@
 //! A play, drawn.
 
 ghost use Rattle.std.specs.Prelude.{◌≡◌, ◌+◌, ◌<◌, ◌≤◌, ◌⊎◌, IfErr, IfOk, IfSome, IsErrOf};
-ghost use Rattle.std.specs.Prelude.{None};
 ghost use Rattle.rh_bytes.specs.Counting.{CountsFault, WritesLast, inner_of};
 ghost use Rattle.rh_bytes.specs.Taking.{TakesAtMost};
 ghost use Rattle.rh_draw.specs.Records.{count_from};
@@ -9,7 +8,7 @@ ghost use Rattle.rh_draw.specs.declared.limits.TheConstants.{MAX_STEPS};
 ghost use Rattle.rh_play.specs.declared.limits.TheConstants.{MAX_TEXT_BYTES};
 ghost use Rattle.rh_play_run.specs.Beginning.{IsBlank};
 ghost use Rattle.rh_play_run.specs.Devices.{ReadsPlay};
-ghost use Rattle.rh_play_run.specs.Drawing.{Draws, IsDrawnOf, IsRecorded, IsUndrawn, IsWindow};
+ghost use Rattle.rh_play_run.specs.Drawing.{Draws, IsDrawnOf, IsRecorded, IsUnchosen, IsUndrawn, IsWindow};
 ghost use Rattle.rh_play_run.specs.Run.{IsUnplayed, SaysGoodPlay};
 
 use crate::beginning::{begin, blank_cells, cells_in};
@@ -20,6 +19,7 @@ use crate::orders::Size;
 use crate::reading::read_play;
 use crate::run::workers_of;
 use crate::schedule::follow;
+use crate::title::title_of;
 use rh_bytes::{Counted, write_texts};
 use rh_draw::{MAX_STEPS, Record, Window, draw, steps_from};
 use rh_play::Play;
@@ -34,6 +34,8 @@ struct Recorded {
     shape: Shape,
     cells: Vec<u64>,
     records: Vec<Record>,
+    /// For each step at a control, the key that its worker does.
+    keys: Vec<Option<u64>>,
 }
 
 /// Reads the text of a play, runs the play, and writes the picture of its steps, an SVG: of so many
@@ -86,9 +88,11 @@ fn drawn<R: Read>(
         shape,
         cells,
         records,
+        keys,
     } = recorded;
     let window = window(&records, from, steps)?;
-    Ok(draw(alloc, &shape, &cells, &records, window)?)
+    let title = title_of(alloc, &play)?;
+    Ok(draw(alloc, &title, &shape, &cells, &records, &keys, window)?)
 }
 
 /// Runs a play, whose table is made of blank cells, for its records.
@@ -111,6 +115,7 @@ fn record(alloc: Global, blank: Vec<u64>, play: &Play) -> Result<Recorded, PlayR
         shape,
         cells,
         records: log.records,
+        keys: log.keys,
     })
 }
 
@@ -118,12 +123,15 @@ fn record(alloc: Global, blank: Vec<u64>, play: &Play) -> Result<Recorded, PlayR
 fn window(records: &[Record], from: u64, steps: Option<u64>) -> Result<Window, DrawFault>
     requires { IfSome steps (λ n. n ≤ MAX_STEPS) }
     ensures window { IfOk result (IsWindow from steps records.now) }
-    ensures refused { IfErr result (λ fault. (fault ≡ DrawFault.TooMany) × (steps ≡ None)
-        × (MAX_STEPS < count_from from records.now)) }
+    ensures refused { IfErr result (IsUnchosen from steps records.now) }
 {
+    let there = steps_from(records, from) as u64;
+    if from > 1 && there == 0 {
+        return Err(DrawFault::NoStep);
+    }
     let steps = match steps {
         Some(steps) => steps,
-        None => steps_from(records, from) as u64,
+        None => there,
     };
     if steps > MAX_STEPS {
         return Err(DrawFault::TooMany);

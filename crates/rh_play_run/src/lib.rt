@@ -22,7 +22,8 @@
 //! - `draw_play`: where it answers `Ok`, what was written is a picture (`rh_draw`) of the steps
 //!   that were made, from a number on, and of the cells at first. A play is refused, and want of
 //!   memory told, as by `run_play`. `TooMany` comes only where no number of steps was chosen and
-//!   they are more than 2,000.
+//!   they are more than 2,000, and `NoStep` only where a number beyond 1 was, and no step has it or
+//!   a later one.
 //! - `steps_stand_between`: such a text is, without the lines of its steps, what the play prints.
 //!
 //! Of readers and writers whose bytes are not known nothing is said of bytes.
@@ -40,6 +41,7 @@ mod reading;
 mod resting;
 mod run;
 mod schedule;
+mod title;
 mod turns;
 
 pub use draw_fault::DrawFault;

@@ -30,6 +30,8 @@ pub(crate) struct Log {
     pub(crate) telling: Telling,
     pub(crate) text: Vec<u8>,
     pub(crate) records: Vec<Record>,
+    /// With the records: for each step at a control, the key that its worker does.
+    pub(crate) keys: Vec<Option<u64>>,
     pub(crate) steps: u64,
 }
 
@@ -44,6 +46,7 @@ impl Log {
             telling,
             text: Vec::new(alloc),
             records: Vec::new(alloc),
+            keys: Vec::new(alloc),
             steps: 0,
         }
     }
@@ -79,6 +82,16 @@ impl Log {
             Telling::Steps => push_step(&mut self.text, &step),
             Telling::Records => Ok(self.records.push(Record::Step(step))?),
         }
+    }
+
+    /// Keeps the key that the step of a turn does, if one was made, beside its record.
+    pub(crate) fn keep(&mut self, made: bool, key: Option<u64>) -> Result<(), AllocError>
+        ensures { OnOk result (TellsPieces self.old [] self.new) }
+    {
+        if made && self.telling == Telling::Records {
+            self.keys.push(key)?;
+        }
+        Ok(())
     }
 
     /// Tells of a further round, where it began.

@@ -6,9 +6,10 @@ ghost use Rattle.rh_play_run.specs.Schedule.{ATurn, Misses, Reaches, TurnsOf, Tu
 
 use crate::log::Log;
 use rh_play::Last;
+use rh_recorder::Touched;
 use rh_stepper::Player;
 use rh_turns::Turn;
-use rh_words::StepKind;
+use rh_words::{Part, StepKind};
 use std::alloc::AllocError;
 
 /// One turn of a worker, which is told.
@@ -22,7 +23,16 @@ pub(crate) fn take_turn(
 {
     let (turn, touched) = player.trace(worker);
     log.take(worker, turn, touched)?;
+    log.keep(touched.is_some(), key_at(player, touched))?;
     Ok(turn)
+}
+
+/// The key that the worker does whose control a step touched.
+fn key_at(player: &Player, touched: Option<Touched>) -> Option<u64> {
+    match touched?.part {
+        Part::Control { worker } => player.key(worker),
+        _ => None,
+    }
 }
 
 /// So many turns of a worker, and what the last came to: `Limit` where there is none.

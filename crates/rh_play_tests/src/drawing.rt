@@ -50,12 +50,18 @@ fn a_play_is_drawn_once(rt: HostRuntime) -> Result<(), Fail> {
     Ok(())
 }
 
+// Worker 0 asks for two keys of a table that holds three.
+const TITLE: [&str; 3] = [
+    ">Workers ask for keys in a table of 8 cells</text>",
+    ">held at first: 17 1 9</text>",
+    ">worker 0: 9 2</text>",
+];
+
 // The number of the first step, how many are chosen, and which of the reads are drawn.
 const WINDOWS: &[(u64, Option<u64>, [u64; 3])] = &[
     (0, None, [1, 1, 1]),
     (0, Some(1), [1, 0, 0]),
     (2, None, [0, 1, 1]),
-    (4, None, [0, 0, 0]),
     (1, Some(2), [1, 1, 0]),
     (2, Some(1), [0, 1, 0]),
     (3, Some(2000), [0, 0, 1]),
@@ -71,6 +77,26 @@ fn the_steps_that_are_chosen_are_drawn(rt: HostRuntime) -> Result<(), Fail> {
         assert_eq!(rt; occurrences(&text, READS[0]), first, "from {from}");
         assert_eq!(rt; occurrences(&text, READS[1]), second, "from {from}");
         assert_eq!(rt; occurrences(&text, READS[2]), third, "from {from}");
+    }
+    Ok(())
+}
+
+#[test]
+fn a_first_step_behind_the_last_one_is_refused(rt: HostRuntime) {
+    for steps in [None, Some(1)] {
+        assert_eq!(rt;
+            drawn(rt.alloc(), QUESTIONS.0.as_bytes(), 4, steps).err(),
+            Some(Some(DrawFault::NoStep))
+        );
+    }
+}
+
+// Its first lines say what its workers are to do.
+#[test]
+fn a_picture_has_a_title(rt: HostRuntime) -> Result<(), Fail> {
+    let text = drawn(rt.alloc(), QUESTIONS.0.as_bytes(), 1, None).map_err(|_| "refused")?;
+    for line in TITLE {
+        assert_eq!(rt; occurrences(&text, line), 1);
     }
     Ok(())
 }

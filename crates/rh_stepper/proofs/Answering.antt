@@ -24,7 +24,7 @@ use Rattle.rh_stepper.proofs.Dealing.{part_at}
 
 -- ---- what was told
 
-beyond_all : {A : Type 0} (f : Hand → A) (default : A) (hs : List Hand) (v : ℕ) → length hs ≤ v → at_hand f default hs v ≡ default
+pub beyond_all : {A : Type 0} (f : Hand → A) (default : A) (hs : List Hand) (v : ℕ) → length hs ≤ v → at_hand f default hs v ≡ default
 beyond_all f default [] v high = refl
 beyond_all f default (h ∷ hs) zero high = absurd (omega (arith, high))
 beyond_all f default (h ∷ hs) (suc v) high = beyond_all f default hs v (omega (arith, high))

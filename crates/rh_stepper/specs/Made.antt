@@ -58,6 +58,10 @@ changed_count g = total (map (λ h. h.changed) g.hands)
 abbrev pub cut : ℕ → ℕ
 cut n = min n (2 ^ 64 - 1)
 
+-- the key that a worker began last
+abbrev pub key_of : Game → (worker : ℕ) → Option ℕ
+key_of g = at_hand (λ h. Some h.worker.key) None g.hands
+
 -- ---- the answers
 
 abbrev pub is_asked : Kind → Bool

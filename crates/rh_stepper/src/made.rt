@@ -9,7 +9,7 @@ ghost use Rattle.rh_tagword.specs.Word.{word_in};
 ghost use Rattle.rh_ledger.specs.Tally.{tally_by};
 ghost use Rattle.rh_turns.specs.Game.{AllFinished, IsDoneAt, done_at, keys_at};
 ghost use Rattle.rh_stepper.specs.Made.{AnswersAll, IsAnswer, IsMadeSoFar, TallySpec, changed_count};
-ghost use Rattle.rh_stepper.specs.Made.{done_count, held_first, is_shared, told_at, told_of};
+ghost use Rattle.rh_stepper.specs.Made.{done_count, held_first, is_shared, key_of, told_at, told_of};
 
 use crate::player::Player;
 use rh_ledger::{Kind, Tally, tally_by};
@@ -80,6 +80,16 @@ impl Player {
             changed = changed.saturating_add(hand.changed as u64);
         }
         tally_by(self.kind, done, changed)
+    }
+
+    /// The key that a worker began last; 0 before it began one.
+    pub fn key(&self, worker: usize) -> Option<u64>
+        ensures { result ≡ key_of self.now worker }
+    {
+        if worker >= self.hands.len() {
+            return None;
+        }
+        Some(self.hands[worker].worker.key)
     }
 
     /// Where keys are asked for: what was told of the key at this position of a worker's piece, if

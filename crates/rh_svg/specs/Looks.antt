@@ -2,10 +2,11 @@
 use Rattle.std.specs.Prelude.{ℕ, ◌%◌, ◌==◌, if◌then◌else◌, List, [], codes}
 use Rattle.rh_svg.specs.declared.looks.TheConstants.{COLOURS}
 use Rattle.rh_svg.specs.declared.looks.Look.{Look}
-use Rattle.rh_svg.specs.declared.looks.Look.TheVariants.{Ground, Number, Head, Lane, Help, Act, Decision, Late, Round, Saying, Empty, Key, Mark, Desc, Odd, Word, Value}
+use Rattle.rh_svg.specs.declared.looks.Look.TheVariants.{Ground, Title, Number, Head, Lane, Help, Act, Decision, Late, Round, Saying, Empty, Key, Mark, Desc, Odd, Word, Value}
 
 abbrev pub look_word : Look → List ℕ
 look_word Ground = codes "ground"
+look_word Title = codes "title"
 look_word Number = codes "number"
 look_word Head = codes "head"
 look_word (Lane worker) = codes "lane"
@@ -48,6 +49,7 @@ colour worker = colour_at (worker % COLOURS)
 -- the class of its colour, or nothing
 abbrev pub tint : Look → List ℕ
 tint Ground = []
+tint Title = []
 tint Number = []
 tint Head = []
 tint (Lane worker) = colour worker

@@ -11,6 +11,8 @@ pub(crate) const COLOURS: u64 = 16;
 pub enum Look {
     /// The background.
     Ground,
+    /// What the play is.
+    Title,
     /// The number of a step.
     Number,
     /// The head of a lane, a column or the legend.
@@ -46,6 +48,7 @@ impl Look {
     {
         match self {
             Look::Ground => "ground",
+            Look::Title => "title",
             Look::Number => "number",
             Look::Head => "head",
             Look::Lane(_) => "lane",

@@ -37,6 +37,7 @@ ending_by (fault.Program fault) = ending_by_program fault
 ending_by (fault.Play fault) = ending_by_play fault
 ending_by (fault.Draw (draw.Play fault)) = ending_by_play fault
 ending_by (fault.Draw draw.TooMany) = Refused
+ending_by (fault.Draw draw.NoStep) = Refused
 
 -- how the program ends that came to this
 abbrev pub ending : Result Status Fault → Status

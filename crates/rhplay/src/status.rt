@@ -29,7 +29,7 @@ impl Fault {
         match self {
             Fault::Program(fault) => fault.status(),
             Fault::Play(fault) | Fault::Draw(DrawFault::Play(fault)) => status_of_play(fault),
-            Fault::Draw(DrawFault::TooMany) => Status::Refused,
+            Fault::Draw(DrawFault::TooMany | DrawFault::NoStep) => Status::Refused,
         }
     }
 }

@@ -1,5 +1,5 @@
 use Rattle.rh_draw.proofs.Showing.{both}
 use Rattle.rh_draw.proofs.boxes.draw_boxes.Goals as goal
 
-pub loop-cell-preserved : goal.loop-cell-preserved
-loop-cell-preserved c = both c.loop-cell.invariant c.in_ok-draw_box.ensures
+pub loop-span-preserved : goal.loop-span-preserved
+loop-span-preserved c = both (both c.loop-span.invariant c.in_ok-draw_box.ensures) c.in_ok-draw_again.ensures

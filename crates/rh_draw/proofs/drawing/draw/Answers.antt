@@ -1,17 +1,13 @@
-use Rattle.std.proofs.Common.{ℕ, ◌≤◌, arith}
-use Rattle.rh_draw.specs.Places.{column_x, lane_x}
-use Rattle.rh_draw.proofs.Showing.{a_picture, well_formed}
+use Rattle.std.proofs.Common.{◌-◌, ◌/◌}
+use Rattle.rh_draw.specs.declared.limits.TheConstants.{HEAD_STEPS}
+use Rattle.rh_draw.proofs.Showing.{a_picture, framed, well_formed}
 use Rattle.rh_draw.proofs.drawing.draw.Goals as goal
 
 pub returns : goal.returns
 returns c =
-    let view = c.in_ok-view.ensures in
-    let all = c.in_ok-draw_all.ensures in
-    let workers : ℕ = c.in_ok-view.view.shape.workers in
-    let right : ℕ = column_x workers c.in_ok-view.view.columns in
-    let wide : lane_x workers ≤ right = omega arith in
+    let laid = c.in_ok-view.ensures in
+    let told = c.in_ok-draw_told.ensures in
     let picture =
-    a_picture _ c.in_ok-view.view.shape c.args.cells.now c.args.records.now _ c.in_ok-view.view.window _ right c.in_ok-view.view.end
-    c.picture_size-size.result.0 c.picture_size-size.result.1 _ _ _ _ _ view.shape view.window view.long view.columns wide
-    c.new-canvas.ensures c.in_ok-open.ensures all.1 all.2 c.in_ok-close.ensures in
+    a_picture _ _ _ c.args.cells.now c.args.records.now _ _ _ _ ((c.in_ok-view.view.end - 1) / HEAD_STEPS) _ _ _ _ _ _ _ laid.shape laid.window laid.long laid.columns laid.right
+    c.new-canvas.ensures c.in_ok-open.ensures told.1 (framed c.in_ok-draw_frame.ensures c.in_ok-draw_boxes.ensures told.2) c.in_ok-close.ensures in
     record { drawn = picture; well_formed = well_formed picture }

@@ -2,7 +2,6 @@ use Rattle.rh_draw.proofs.Showing.{all_told, both, more_told, nothing}
 use Rattle.std.proofs.Common.{[]}
 use Rattle.rh_draw.specs.Changing.{opening}
 use Rattle.rh_draw.specs.Notices.{AreTold}
-use Rattle.rh_draw.specs.Places.{column_x}
 use Rattle.rh_draw.proofs.history.draw_notices.Goals as goal
 
 pub loop-record-init : goal.loop-record-init
@@ -11,18 +10,18 @@ loop-record-init c = ([], nothing _, rw c.in_ok-sight.ensures (λ more told. tol
 pub loop-record-preserved : goal.loop-record-preserved
 loop-record-preserved c =
     let view = c.args.view.now in
-    let right = column_x view.shape.workers view.columns in
+    let right = view.right in
     let before = c.loop-record.invariant in (
       _,
       both before.1 c.in_ok-draw_notice_of.ensures,
       more_told view.shape view.window right (AreTold view.shape view.window right (opening view.shape c.args.cells.now) c.args.records.now)
-          c.args.records.now c.loop-record.record-index _ _ _ _ c.loop-record-test.true c.in_ok-go_on.ensures before.2,
+          c.args.records.now c.loop-record.record-index _ _ _ _ c.loop-record-test.true c.go_on.ensures before.2,
     )
 
 pub returns : goal.returns
 returns c =
     let view = c.args.view.now in
-    let right = column_x view.shape.workers view.columns in
+    let right = view.right in
     let before = c.loop-record.invariant in
     let told =
     all_told view.shape view.window right (AreTold view.shape view.window right (opening view.shape c.args.cells.now) c.args.records.now)

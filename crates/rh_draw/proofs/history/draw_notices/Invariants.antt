@@ -3,13 +3,12 @@ use Rattle.rh_draw.specs.Reading.{Shows}
 use Rattle.rh_draw.proofs.Showing.{Goes}
 use Rattle.rh_draw.specs.Changing.{opening}
 use Rattle.rh_draw.specs.Notices.{AreTold}
-use Rattle.rh_draw.specs.Places.{column_x}
 use Rattle.rh_svg.specs.declared.tags.Tag.{Tag}
 use Rattle.rh_draw.proofs.history.draw_notices.Given as goal
 
 abbrev pub invariant-loop-record : goal.invariant-loop-record
 invariant-loop-record l =
-    let right = column_x l.view.shape.workers l.view.columns in
+    let right = l.view.right in
     (done : List Tag) × Shows l.fn.canvas.out.items l.canvas.out.items [] done []
     × Goes l.view.shape l.view.window right (AreTold l.view.shape l.view.window right (opening l.view.shape l.cells) l.records)
     l.sight.words.items (drop l.record-index l.records) done

@@ -1,10 +1,9 @@
-use Rattle.std.proofs.Common.{[], take, flat_map}
-use Rattle.rh_draw.specs.Reading.{Shows}
-use Rattle.rh_draw.specs.Places.{column_x}
-use Rattle.rh_draw.specs.Rows.{mark_of, row_lines}
+use Rattle.rh_draw.specs.Rows.{at_first, row_lines}
+use Rattle.rh_draw.proofs.Showing.{RowsDrawn}
 use Rattle.rh_draw.proofs.rows.draw_rows.Given as goal
 
 abbrev pub invariant-loop-record : goal.invariant-loop-record
 invariant-loop-record l =
-    Shows l.fn.canvas.out.items l.canvas.out.items (flat_map (mark_of l.view.window) (take l.record-index l.records))
-    (flat_map (row_lines l.view.window (column_x l.view.shape.workers l.view.columns)) (take l.record-index l.records)) []
+    let workers = l.view.shape.workers in
+    RowsDrawn l.view.window workers l.records (row_lines l.view.window workers (at_first workers) l.records) l.record-index l.whose.items
+    l.fn.canvas.out.items l.canvas.out.items

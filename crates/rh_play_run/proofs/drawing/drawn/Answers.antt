@@ -1,6 +1,6 @@
 use Rattle.std.proofs.Common.{inl, inr}
 use Rattle.std.proofs.lemmas.Result.{err_from_is_err_and}
-use Rattle.rh_play_run.proofs.Drawn.{drawn, good_play, good_run, play_memory, too_many, undrawn}
+use Rattle.rh_play_run.proofs.Drawn.{drawn, good_play, good_run, play_memory, unchosen, undrawn}
 use Rattle.rh_play_run.proofs.drawing.drawn.Goals as goal
 
 pub returns-in_err-play-clause-memory : goal.returns-in_err-play-clause-memory
@@ -16,6 +16,9 @@ returns-in_err-recorded-clause-memory g c =
 pub returns-in_err-window-clause-memory : goal.returns-in_err-window-clause-memory
 returns-in_err-window-clause-memory g c = λ memory. inr (good_run _ c.in_ok-play.play _ _ _ c.in_ok-play.ensures.read c.in_ok-recorded.ensures.recorded)
 
+pub returns-in_err-title-clause-memory : goal.returns-in_err-title-clause-memory
+returns-in_err-title-clause-memory g c = λ memory. inr (good_run _ c.in_ok-play.play _ _ _ c.in_ok-play.ensures.read c.in_ok-recorded.ensures.recorded)
+
 pub returns-in_err-draw-clause-memory : goal.returns-in_err-draw-clause-memory
 returns-in_err-draw-clause-memory g c = λ memory. inr (good_run _ c.in_ok-play.play _ _ _ c.in_ok-play.ensures.read c.in_ok-recorded.ensures.recorded)
 
@@ -28,9 +31,9 @@ pub returns-in_err-window-clause-refused : goal.returns-in_err-window-clause-ref
 returns-in_err-window-clause-refused g c =
     let fault = err_from_is_err_and c.from_residual-in_err-window.result c.from_residual-in_err-window.ensures.1 in
     rw (fault.1, fault.2)
-    (too_many _ c.args.from c.args.steps c.in_ok-play.play c.in_ok-play.ensures.read _ _ _ _ c.in_ok-recorded.ensures.recorded c.deref.ensures.value c.in_err-window.field-0.0 c.in_err-window.ensures.refused)
+    (unchosen _ c.args.from c.args.steps c.in_ok-play.play c.in_ok-play.ensures.read _ _ _ _ c.in_ok-recorded.ensures.recorded c.deref.ensures.value c.in_err-window.field-0.0 c.in_err-window.ensures.refused)
 
 pub returns-clause-drawn : goal.returns-clause-drawn
 returns-clause-drawn g c =
     drawn _ c.args.from c.args.steps c.in_ok-play.play c.in_ok-play.ensures.read _ _ _ _ c.in_ok-recorded.ensures.recorded c.deref.ensures.value
-    _ _ c.in_ok-window.window _ c.deref-2.ensures.value c.deref-3.ensures.value c.in_ok-window.ensures.window c.in_ok-draw.ensures.drawn
+    _ _ c.in_ok-window.window _ _ c.deref-3.ensures.value c.deref-4.ensures.value c.in_ok-window.ensures.window c.in_ok-draw.ensures.drawn

@@ -1,6 +1,6 @@
 use Rattle.rh_draw.proofs.Showing.{both}
 use Rattle.std.proofs.Common.{append-nil, append_assoc}
-use Rattle.rh_draw.proofs.drawing.draw_all.Goals as goal
+use Rattle.rh_draw.proofs.drawing.draw_told.Goals as goal
 
 pub returns : goal.returns
 returns c =
@@ -8,5 +8,5 @@ returns c =
       told.0,
       told.1,
       simp (append-nil, append_assoc)
-          at (both (both (both (both c.in_ok-draw_frame.ensures c.in_ok-draw_history.ensures) told.2) c.in_ok-draw_rows.ensures) c.in_ok-draw_all_heads.ensures),
+          at (both (both (both told.2 c.in_ok-draw_rows.ensures) c.in_ok-draw_rounds.ensures) c.in_ok-draw_all_heads.ensures),
     )
