@@ -26,8 +26,8 @@
 //! - `steps_from`: how many steps there are from a number on, by which a caller can see whether
 //!   they are more than `MAX_STEPS`.
 //!
-//! Where boxes and texts stand, and what is said in them, no contract tells: tests compare whole
-//! pictures.
+//! Where boxes and texts stand, and what is said in them, no contract tells: tests compare parts of
+//! pictures, and measure whole ones in a browser.
 #![tactic(auto)]
 
 mod boxes;

@@ -105,7 +105,7 @@ Reads a play, has its workers take the steps that it says, as `rhplay play` does
 picture of them to standard output, an SVG that a browser shows.";
 
 /// The argument `--from`.
-pub const FROM: &str = "The number of the first step that is drawn";
+pub const FROM: &str = "The number of the first step that is drawn: a step that the play has";
 
 /// The argument `--steps`.
 pub const STEPS: &str = "\
@@ -114,12 +114,13 @@ How many steps are drawn, up to 2000; 0 for all from the first one on, if they a
 
 /// What `draw` reads and writes.
 pub const DRAWINGS: &str = "\
-`rhplay play --help` says what a play is, `rhplay trace --help` what a step is. Time goes down. Each
-worker has a lane with a mark for each of its steps, which tells the step's line where the pointer
-rests on it, and a line to the lane of the worker whose descriptor it is about. Each cell that
-changes has a column, which shows what stands there and, in italics, what the cell stands for. A
-line across all of them is an act: the moment at which a descriptor succeeds, with the cells that
-change.
+`rhplay play --help` says what a play is, `rhplay trace --help` what a step is. The title says what
+the workers are to do, with the keys of each, and below it stands what each sign means. Time goes
+down. Each worker has a lane with a mark for each of its steps, which tells the step's line where
+the pointer rests on it, and a line to the lane of the worker whose descriptor it is about. Each
+cell that changes has a column, which shows what stands there and, in italics, what the cell stands
+for. A line across all of them is an act: the moment at which a descriptor succeeds, with the cells
+that change.
 
 Example:
   rhplay draw examples/helping.play > helping.svg";
