@@ -28,12 +28,7 @@ fn list_of<T: Threads + Sync>(
         alloc,
         workers: Workers { count: workers },
     };
-    let list = read_list_in_blocks(
-        &team,
-        block_bytes,
-        &mut Counted::new(bytes),
-        &mut Nobody,
-    )?;
+    let list = read_list_in_blocks(&team, block_bytes, &mut Counted::new(bytes), &mut Nobody)?;
     let mut keys = Vec::new(alloc);
     for piece in list.pieces() {
         let Ok(()) = keys.extend_from_slice(piece) else {

@@ -61,14 +61,7 @@ pub fn combine<W: Write + Drop>(
         output,
         paths: &asked.files,
     };
-    let outcome = combine_files(
-        &team,
-        &job,
-        &mut shelf,
-        &mut input,
-        &mut writer,
-        &mut line,
-    );
+    let outcome = combine_files(&team, &job, &mut shelf, &mut input, &mut writer, &mut line);
     line.clear();
     match outcome {
         Ok(()) => Ok(Status::Done),
