@@ -2,22 +2,17 @@ use rh_script::*;
 use std::process::Abort;
 use std::test::*;
 
-// The first word of a command that acts on a list.
-fn verb(action: Action) -> &'static str {
-    match action {
-        Action::Add => "add",
-        Action::Drop => "drop",
-        Action::Ask => "ask",
-        Action::Keep => "keep",
-        Action::Flip => "flip",
-    }
-}
-
 // The line of a step, and the words of its command.
 fn words(step: &Step) -> (u64, [&str; 3]) {
     let words = match &step.command {
         Command::Use { name, path } => ["use", name.as_str(), path.as_str()],
-        Command::Act { action, name } => [verb(*action), name.as_str(), ""],
+        Command::Act { action, name } => match action {
+            Action::Add => ["add", name.as_str(), ""],
+            Action::Drop => ["drop", name.as_str(), ""],
+            Action::Ask => ["ask", name.as_str(), ""],
+            Action::Keep => ["keep", name.as_str(), ""],
+            Action::Flip => ["flip", name.as_str(), ""],
+        },
         Command::Save { name } => ["save", name.as_str(), ""],
         Command::Clear => ["clear", "", ""],
         Command::Dump => ["dump", "", ""],
