@@ -3,6 +3,7 @@
 -- Reading: reading from a reader, one step after another.
 -- Parsed: bytes that spell what is read of them, and the other way round.
 -- Told: which faults a reading may tell.
+-- Parts: parts of a file, read one after the other.
 -- Taking: how many bytes calls take together.
 -- Spelled: bytes and the numbers that they spell.
 -- Writing: texts written one after another.
@@ -15,3 +16,4 @@ pub mod Parsed
 pub mod Told
 pub mod Writing
 pub mod Filling
+pub mod Parts

@@ -1,3 +1,4 @@
 pub mod Counting
 pub mod Input
 pub mod Taking
+pub mod Parts

@@ -1,10 +1,9 @@
 //! Bytes, numbers and the end of a binary file, read one after the other. What is wrong is told as
 //! a fault of that file, which the caller names: `read_bytes::<_, KeyFault>(reader, &mut four)?`.
 
-ghost use Rattle.std.specs.Prelude.{◌≡◌, ℕ, Bool, [], length, IsErrOf};
-ghost use Rattle.rh_bytes.specs.Counting.{CountsFault, inner_of};
-ghost use Rattle.rh_bytes.specs.Taking.{TakesAtMost};
-ghost use Rattle.rh_bytes.specs.Input.{AreFaults, Reads, always, bytes_at, number_at, end_at};
+ghost use Rattle.std.specs.Prelude.{◌≡◌, ℕ, Bool, [], length};
+ghost use Rattle.rh_bytes.specs.Input.{AreFaults, always, bytes_at, number_at, end_at};
+ghost use Rattle.rh_bytes.specs.Parts.{ReadsPart};
 
 use crate::bytes::fill;
 use crate::counted::Counted;
@@ -42,13 +41,8 @@ pub trait InputFault: Copy {
 
 /// Fills the buffer.
 pub fn read_bytes<R: Read, E: InputFault>(reader: &mut Counted<R>, buf: &mut [u8]) -> Result<(), E>
-    ensures known { Reads E.is_silent (R.remaining (inner_of reader.old))
-        (R.remaining (inner_of reader.new)) (bytes_at E.short_fault (length buf.new))
-        (always buf.new) result }
-    ensures takes { TakesAtMost (R.remaining (inner_of reader.old))
-        (R.remaining (inner_of reader.new)) (length buf.new) }
-    ensures counts { CountsFault E.read_fault reader.old reader.new result }
-    ensures no_memory { IsErrOf result E.memory_fault → ⊥ }
+    ensures { ReadsPart R.remaining E.is_silent E.read_fault E.memory_fault reader.old reader.new
+        (bytes_at E.short_fault (length buf.new)) (always buf.new) (length buf.new) result }
 {
     let Some(n) = fill(reader, buf) else {
         return Err(E::read());
@@ -61,12 +55,8 @@ pub fn read_bytes<R: Read, E: InputFault>(reader: &mut Counted<R>, buf: &mut [u8
 
 /// A number of 8 bytes, the highest first.
 pub fn read_number<R: Read, E: InputFault>(reader: &mut Counted<R>) -> Result<u64, E>
-    ensures known { Reads E.is_silent (R.remaining (inner_of reader.old))
-        (R.remaining (inner_of reader.new)) (number_at E.short_fault) (λ n. n) result }
-    ensures takes { TakesAtMost (R.remaining (inner_of reader.old))
-        (R.remaining (inner_of reader.new)) 8 }
-    ensures counts { CountsFault E.read_fault reader.old reader.new result }
-    ensures no_memory { IsErrOf result E.memory_fault → ⊥ }
+    ensures { ReadsPart R.remaining E.is_silent E.read_fault E.memory_fault reader.old reader.new
+        (number_at E.short_fault) (λ n. n) 8 result }
 {
     let mut eight = [0u8; 8];
     read_bytes::<_, E>(reader, &mut eight)?;
@@ -75,12 +65,8 @@ pub fn read_number<R: Read, E: InputFault>(reader: &mut Counted<R>) -> Result<u6
 
 /// Tests that nothing comes any more.
 pub fn read_end<R: Read, E: InputFault>(reader: &mut Counted<R>) -> Result<(), E>
-    ensures known { Reads E.is_silent (R.remaining (inner_of reader.old))
-        (R.remaining (inner_of reader.new)) (end_at E.long_fault) (λ _. []) result }
-    ensures takes { TakesAtMost (R.remaining (inner_of reader.old))
-        (R.remaining (inner_of reader.new)) 1 }
-    ensures counts { CountsFault E.read_fault reader.old reader.new result }
-    ensures no_memory { IsErrOf result E.memory_fault → ⊥ }
+    ensures { ReadsPart R.remaining E.is_silent E.read_fault E.memory_fault reader.old reader.new
+        (end_at E.long_fault) (λ _. []) 1 result }
 {
     let mut one = [0u8; 1];
     let Some(n) = fill(reader, &mut one) else {
