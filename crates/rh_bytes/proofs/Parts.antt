@@ -1,8 +1,9 @@
 -- Parts of a file, read one after the other.
-use Rattle.std.proofs.Common.{◌≡◌, ◌≢◌, ℕ, Bool, List, length, Option, Result, Ok, Err, subst, ◌∙◌}
+use Rattle.std.proofs.Common.{◌≡◌, ◌≢◌, ℕ, Bool, List, length, Option, Result, Ok, Err, refl, subst, ◌∙◌}
+use Rattle.std.specs.Int.{w64, from_be_bytes}
 use Rattle.rh_bytes.specs.declared.counted.Counted.{Counted}
 use Rattle.rh_bytes.specs.Counting.{Rose, failures_of, inner_of}
-use Rattle.rh_bytes.specs.Input.{◌>>=◌, always, bytes_at}
+use Rattle.rh_bytes.specs.Input.{◌>>=◌, always, bytes_at, number_at, number_in}
 use Rattle.rh_bytes.specs.Parts.{ReadsPart}
 use Rattle.rh_bytes.specs.Taking.{TakesAtMost}
 use Rattle.rh_bytes.proofs.Reading.{Reads-err, Reads-fails, Reads-ok, Reads-then}
@@ -57,3 +58,13 @@ module _ {R E : Type 0} {bytes_of : R → Option (List ℕ)} {silent : E → Boo
       counts = record { rose = λ failed. absurd (not_read cc); stays = λ other. h.counts.stays (λ is. cc) };
       no_memory = λ is. not_memory cc;
     }
+
+  -- a number is eight bytes
+  module _ {a b : Counted R} (short : E) (buf : List ℕ) (eight : length buf ≡ 8) where
+    pub number_fails : {e : E} → ReadsPart {X = Unit {0}} bytes_of silent read memory a b (bytes_at short (length buf)) (always buf) (length buf) (Err e) → ReadsPart bytes_of silent read memory a b (number_at short) (λ (n : ℕ). n) 8 (Err e)
+    unfolding number_at
+    number_fails h = let part = part_of short buf 8 h eight in part_fails number_in part part.takes
+
+    pub number_is : {n : ℕ} → ReadsPart {X = Unit {0}} bytes_of silent read memory a b (bytes_at short (length buf)) (always buf) (length buf) (Ok tt) → n ≡ from_be_bytes w64 buf → ReadsPart bytes_of silent read memory a b (number_at short) (λ (n : ℕ). n) 8 (Ok n)
+    unfolding number_at
+    number_is h is = part_is number_in (part_of short buf 8 h eight) (λ bytes. rw is refl)

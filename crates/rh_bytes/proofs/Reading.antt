@@ -1,10 +1,9 @@
 -- Reading from a reader, one step after another.
-use Rattle.std.proofs.Common.{◌≡◌, ℕ, zero, suc, Bool, ◌≤◌, ◌<◌, List, [], ◌∷◌, ◌++◌, length, take, get_or, Option, Some, None, Result, Ok, Err, inl, inr, refl, ap, ◌∙◌, subst, arith, append-nil}
+use Rattle.std.proofs.Common.{◌≡◌, ℕ, zero, suc, Bool, ◌≤◌, ◌<◌, List, [], ◌∷◌, ◌++◌, length, take, get_or, Option, Some, None, Result, Ok, Err, inl, inr, refl, ap, ◌∙◌, arith, append-nil}
 use Rattle.std.proofs.lemmas.Bool.{cases_Bool}
 use Rattle.std.proofs.lemmas.List.{take_at, drop_at, length-take, take_all}
-use Rattle.std.specs.Int.{w64, from_be_bytes}
 use Rattle.std.specs.Io.KnownBytes.{Consumes, IsAtEnd}
-use Rattle.rh_bytes.specs.Input.{◌>>=◌, AreAll, Fails, Reads, always, bytes_at, end_at, number_at, number_in}
+use Rattle.rh_bytes.specs.Input.{◌>>=◌, AreAll, Fails, Reads, always, bytes_at, end_at}
 use Rattle.rh_bytes.proofs.Spelled.{are_bytes, begins, begins_not}
 
 -- ---- lists of numbers
@@ -76,25 +75,6 @@ module _ {E : Type 0} (silent : E → Bool) where
         let whole : xs ≡ take n buf = h ∙ ap (λ l. take n buf ++ l) end ∙ append-nil (take n buf) in
         let few : length xs < length buf = rw whole (omega (arith, length-take n buf)) in
         Fails-so short (bytes_at short (length buf) xs) (rw (begins_not (length buf) xs few) refl)
-
-    -- as many as the buffer has room for
-    abbrev pub Buffer : (a b : Option (List ℕ)) (buf : List ℕ) → Result (Unit {0}) E → Type 0
-    Buffer a b buf r = Reads silent a b (bytes_at short (length buf)) (always buf) r
-
-    pub so_many : (a b : Option (List ℕ)) (n : ℕ) (buf : List ℕ) (r : Result (Unit {0}) E) → length buf ≡ n → Buffer a b buf r → Reads silent a b (bytes_at short n) (always buf) r
-    so_many a b n buf r len h = subst (λ k. Reads silent a b (bytes_at short k) (always buf) r) len h
-
-    -- ---- a number
-
-    pub number_fails : (a b : Option (List ℕ)) (buf : List ℕ) (e : E) → length buf ≡ 8 → Buffer a b buf (Err e) → Reads silent a b (number_at short) (λ (n : ℕ). n) (Err e)
-    unfolding number_at
-    number_fails a b buf e len h = Reads-fails a b b (bytes_at short 8) number_in (always {X = Unit {0}} buf) (λ (n : ℕ). n) e (so_many a b 8 buf (Err e) len h)
-
-    pub number_ok : (a b : Option (List ℕ)) (buf : List ℕ) (n : ℕ) → length buf ≡ 8 → n ≡ from_be_bytes w64 buf → Buffer a b buf (Ok tt) → Reads silent a b (number_at short) (λ (n : ℕ). n) (Ok n)
-    unfolding number_at
-    number_ok a b buf n len is h =
-        Reads-then a b b (bytes_at short 8) number_in (always {X = Unit {0}} buf) (λ (n : ℕ). n) tt (Ok n) (so_many a b 8 buf (Ok tt) len h)
-        (Reads-ok b (λ bytes. number_in (buf, bytes)) (λ (n : ℕ). n) n (λ bytes. rw is refl))
 
   -- ---- the end
 

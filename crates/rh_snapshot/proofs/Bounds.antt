@@ -42,6 +42,14 @@ IsLater e = Unit {0}
 number_later : (bytes : List ℕ) → IfErr (number_at Short bytes) IsLater
 number_later bytes = number_told IsLater Short tt bytes
 
+magic_within : (e : SnapFault) → snap_magic_bytes ≤ snap_header_taken (Some e)
+magic_within NotSnapshot = omega arith
+magic_within BadBits = omega arith
+magic_within e = omega arith
+
+pub magic_stops : (a b : Option (List ℕ)) (e : SnapFault) → TakesAtMost a b snap_magic_bytes → TakesAtMost a b (snap_header_taken (Some e))
+magic_stops a b e t = takes_fewer a b snap_magic_bytes (snap_header_taken (Some e)) t (magic_within e)
+
 pub header_stops_at_bits : (a b c : Option (List ℕ)) (version : Version) (e : SnapFault) → TakesAtMost a b snap_magic_bytes → TakesAtMost b c 1 → ReadsSnap b c (bits_at version) (λ (n : ℕ). n) (Err e) → TakesAtMost a c (snap_header_taken (Some e))
 header_stops_at_bits None b c version e s t h = takes_of_unknown c (snap_header_taken (Some e))
 header_stops_at_bits (Some x) None c version e s t h = absurd s.consumed

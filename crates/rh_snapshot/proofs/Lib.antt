@@ -1,6 +1,5 @@
 -- A snapshot is read by steps, as a key file is, and what is so of the steps of both is shown in rh_bytes. Its numbers are
 -- hashed as they come, and then the seal is tested.
--- Steps: the steps of the header.
 -- Numbers: numbers one after the other, and their hash.
 -- Keys: numbers of a file, and the cells and keys that they stand for.
 -- Seal: a seal is 32 bytes.
@@ -10,7 +9,6 @@
 -- Sealing: a text that was appended, and then its seal.
 
 pub mod Seal
-pub mod Steps
 pub mod Numbers
 pub mod Whole
 pub mod Keys

@@ -1,14 +1,24 @@
-use Rattle.std.proofs.Common.{rules}
+use Rattle.std.proofs.Common.{◌≡◌, true, false, refl, rules, get_or}
 use Rattle.std.proofs.lemmas.Result.{err_from_is_err_and}
-use Rattle.rh_snapshot.proofs.Steps.{bits_fails, bits_ok, bits_bad}
+use Rattle.rh_bytes.proofs.Parts.{part_fails, part_is, part_is_not, part_of}
+use Rattle.rh_snapshot.specs.Reading.{are_bits, bits_at, bits_in}
 use Rattle.rh_snapshot.proofs.parts.read_bits.Goals as goal
 
-pub returns-in_err-read_bytes-clause-known : goal.returns-in_err-read_bytes-clause-known
-returns-in_err-read_bytes-clause-known g c =
-    let p = err_from_is_err_and c.from_residual.result c.from_residual.ensures.1 in rw (p.1, p.2) (bits_fails _ _ _ c.read_bytes.new.buf _ (search rules) c.in_err-read_bytes.ensures.known)
+pub returns-in_err-read_bytes-clause-reads : goal.returns-in_err-read_bytes-clause-reads
+unfolding bits_at
+returns-in_err-read_bytes-clause-reads g c =
+    let p = err_from_is_err_and c.from_residual.result c.from_residual.ensures.1 in
+    let one = part_of _ _ 1 c.in_err-read_bytes.ensures (search rules) in
+    rw (p.1, p.2) (part_fails (bits_in c.args.version) one one.takes)
 
-pub returns-then-not-allows-clause-known : goal.returns-then-not-allows-clause-known
-returns-then-not-allows-clause-known g c = bits_bad _ _ _ c.read_bytes.new.buf c.from-bits.result (search rules) (search rules) (search rules) c.in_ok-read_bytes.ensures.known
+pub returns-then-not-allows-clause-reads : goal.returns-then-not-allows-clause-reads
+unfolding bits_at
+returns-then-not-allows-clause-reads g c =
+    let bad : are_bits c.args.version (get_or c.read_bytes.new.buf 0 0) ≡ false = search rules in
+    part_is_not (bits_in c.args.version) (part_of _ _ 1 c.in_ok-read_bytes.ensures (search rules)) (λ bytes. rw bad refl) (λ is. cc) (λ is. cc)
 
-pub returns-clause-known : goal.returns-clause-known
-returns-clause-known g c = bits_ok _ _ _ c.read_bytes.new.buf c.from-bits.result (search rules) (search rules) (search rules) c.in_ok-read_bytes.ensures.known
+pub returns-clause-reads : goal.returns-clause-reads
+unfolding bits_at
+returns-clause-reads g c =
+    let fits : are_bits c.args.version (get_or c.read_bytes.new.buf 0 0) ≡ true = search rules in
+    part_is (bits_in c.args.version) (part_of _ _ 1 c.in_ok-read_bytes.ensures (search rules)) (λ bytes. rw fits (search rules))

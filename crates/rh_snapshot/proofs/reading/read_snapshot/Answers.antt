@@ -16,24 +16,24 @@ use Rattle.rh_snapshot.proofs.reading.read_snapshot.Goals as goal
 pub returns-in_err-header-clause-known : goal.returns-in_err-header-clause-known
 returns-in_err-header-clause-known g c =
     let p = err_from_is_err_and c.from_residual.result c.from_residual.ensures.1 in
-    rw (p.1, p.2) (header_faults table_as _ _ _ _ c.in_err-header.ensures.known)
+    rw (p.1, p.2) (header_faults table_as _ _ _ _ c.in_err-header.ensures.reads.known)
 
 pub returns-in_err-numbers-clause-known : goal.returns-in_err-numbers-clause-known
 returns-in_err-numbers-clause-known g c =
     let p = err_from_is_err_and c.from_residual-in_err-numbers.result c.from_residual-in_err-numbers.ensures.1 in
-    rw (p.1, p.2) (numbers_fault table_as _ _ _ _ _ c.in_ok-header.header _ c.in_ok-header.ensures.known c.in_err-numbers.ensures.known)
+    rw (p.1, p.2) (numbers_fault table_as _ _ _ _ _ c.in_ok-header.header _ c.in_ok-header.ensures.reads.known c.in_err-numbers.ensures.known)
 
 pub returns-in_err-seal-clause-known : goal.returns-in_err-seal-clause-known
 returns-in_err-seal-clause-known g c =
     let p = err_from_is_err_and c.from_residual-in_err-seal.result c.from_residual-in_err-seal.ensures.1 in
-    rw (p.1, p.2) (seal_faults table_as _ _ _ _ _ _ c.in_ok-header.header (c.in_ok-numbers.numbers, c.in_ok-numbers.digest) _ c.in_ok-header.ensures.known c.in_ok-numbers.ensures.known c.in_err-seal.ensures.known)
+    rw (p.1, p.2) (seal_faults table_as _ _ _ _ _ _ c.in_ok-header.header (c.in_ok-numbers.numbers, c.in_ok-numbers.digest) _ c.in_ok-header.ensures.reads.known c.in_ok-numbers.ensures.known c.in_err-seal.ensures.known)
 
 pub returns-then-ne-clause-known : goal.returns-then-ne-clause-known
 returns-then-ne-clause-known g c =
     let header = c.in_ok-header.header in
     let numbers = c.in_ok-numbers.numbers.items in
     let bad : is_sealed header numbers c.in_ok-seal.seal ≡ false = search rules in
-    refused table_as _ _ _ _ _ _ header (c.in_ok-numbers.numbers, c.in_ok-numbers.digest) c.in_ok-seal.seal _ c.in_ok-header.ensures.known c.in_ok-numbers.ensures.known c.in_ok-seal.ensures.known
+    refused table_as _ _ _ _ _ _ header (c.in_ok-numbers.numbers, c.in_ok-numbers.digest) c.in_ok-seal.seal _ c.in_ok-header.ensures.reads.known c.in_ok-numbers.ensures.known c.in_ok-seal.ensures.known
     (damaged header numbers c.in_ok-seal.seal bad)
 
 pub returns-in_default-clause-known : goal.returns-in_default-clause-known
@@ -41,7 +41,7 @@ returns-in_default-clause-known g c =
     let header = c.in_ok-header.header in
     let numbers = c.in_ok-numbers.numbers.items in
     let good : is_sealed header numbers c.in_ok-seal.seal ≡ true = search rules in
-    refused table_as _ _ _ _ _ _ header (c.in_ok-numbers.numbers, c.in_ok-numbers.digest) c.in_ok-seal.seal _ c.in_ok-header.ensures.known c.in_ok-numbers.ensures.known c.in_ok-seal.ensures.known
+    refused table_as _ _ _ _ _ _ header (c.in_ok-numbers.numbers, c.in_ok-numbers.digest) c.in_ok-seal.seal _ c.in_ok-header.ensures.reads.known c.in_ok-numbers.ensures.known c.in_ok-seal.ensures.known
     (no_layout header numbers c.in_ok-seal.seal good (search rules))
 
 pub returns-in_err-read_end-clause-known : goal.returns-in_err-read_end-clause-known
@@ -50,7 +50,7 @@ returns-in_err-read_end-clause-known g c =
     let header = c.in_ok-header.header in
     let numbers = c.in_ok-numbers.numbers.items in
     let good : is_sealed header numbers c.in_ok-seal.seal ≡ true = search rules in
-    rw (p.1, p.2) (end_faults table_as _ _ _ _ _ _ _ header (c.in_ok-numbers.numbers, c.in_ok-numbers.digest) c.in_ok-seal.seal _ _ c.in_ok-header.ensures.known c.in_ok-numbers.ensures.known c.in_ok-seal.ensures.known
+    rw (p.1, p.2) (end_faults table_as _ _ _ _ _ _ _ header (c.in_ok-numbers.numbers, c.in_ok-numbers.digest) c.in_ok-seal.seal _ _ c.in_ok-header.ensures.reads.known c.in_ok-numbers.ensures.known c.in_ok-seal.ensures.known
     (is_good header numbers c.in_ok-seal.seal good (search rules)) c.in_err-read_end.ensures.known)
 
 pub returns-clause-known : goal.returns-clause-known
@@ -58,7 +58,7 @@ returns-clause-known g c =
     let header = c.in_ok-header.header in
     let numbers = c.in_ok-numbers.numbers.items in
     let good : is_sealed header numbers c.in_ok-seal.seal ≡ true = search rules in
-    whole_ok table_as _ _ _ _ _ _ header (c.in_ok-numbers.numbers, c.in_ok-numbers.digest) c.in_ok-seal.seal _ c.in-Some.snapshot c.in-Some.ensures.table c.in_ok-header.ensures.known c.in_ok-numbers.ensures.known c.in_ok-seal.ensures.known
+    whole_ok table_as _ _ _ _ _ _ header (c.in_ok-numbers.numbers, c.in_ok-numbers.digest) c.in_ok-seal.seal _ c.in-Some.snapshot c.in-Some.ensures.table c.in_ok-header.ensures.reads.known c.in_ok-numbers.ensures.known c.in_ok-seal.ensures.known
     (is_good header numbers c.in_ok-seal.seal good (search rules)) c.in_ok-read_end.ensures.known
 
 pub returns-clause-spelled : goal.returns-clause-spelled
@@ -78,34 +78,34 @@ returns-clause-free g c = (good c.in_ok-header.header c.in_ok-numbers.numbers.it
 pub returns-in_err-numbers-clause-takes : goal.returns-in_err-numbers-clause-takes
 returns-in_err-numbers-clause-takes g c =
     let p = err_from_is_err_and c.from_residual-in_err-numbers.result c.from_residual-in_err-numbers.ensures.1 in
-    rw (p.1, p.2) (file_stops_in_numbers _ _ _ _ c.in_ok-header.header _ c.in_ok-header.ensures.known c.in_ok-header.ensures.takes c.in_err-numbers.ensures.takes c.in_err-numbers.ensures.known)
+    rw (p.1, p.2) (file_stops_in_numbers _ _ _ _ c.in_ok-header.header _ c.in_ok-header.ensures.reads.known c.in_ok-header.ensures.reads.takes c.in_err-numbers.ensures.takes c.in_err-numbers.ensures.known)
 
 pub returns-in_err-seal-clause-takes : goal.returns-in_err-seal-clause-takes
 returns-in_err-seal-clause-takes g c =
     let p = err_from_is_err_and c.from_residual-in_err-seal.result c.from_residual-in_err-seal.ensures.1 in
     let cells = 2 ^ c.in_ok-header.header.bits in
-    rw (p.1, p.2) (file_stops_in_seal _ _ _ _ _ c.in_ok-header.header _ c.in_ok-header.ensures.known c.in_err-seal.ensures.no_memory (takes_then _ _ _ snap_header_bytes (8 * cells) c.in_ok-header.ensures.takes c.in_ok-numbers.ensures.takes) c.in_err-seal.ensures.takes c.in_err-seal.ensures.known)
+    rw (p.1, p.2) (file_stops_in_seal _ _ _ _ _ c.in_ok-header.header _ c.in_ok-header.ensures.reads.known c.in_err-seal.ensures.no_memory (takes_then _ _ _ snap_header_bytes (8 * cells) c.in_ok-header.ensures.reads.takes c.in_ok-numbers.ensures.takes) c.in_err-seal.ensures.takes c.in_err-seal.ensures.known)
 
 pub returns-then-ne-clause-takes : goal.returns-then-ne-clause-takes
 returns-then-ne-clause-takes g c =
     let cells = 2 ^ c.in_ok-header.header.bits in
-    takes_within _ _ _ c.in_ok-header.header (sealed_bytes cells) (Some Damaged) c.in_ok-header.ensures.known (takes_sealed _ _ _ _ cells c.in_ok-header.ensures.takes c.in_ok-numbers.ensures.takes c.in_ok-seal.ensures.takes) (le_refl (sealed_bytes cells))
+    takes_within _ _ _ c.in_ok-header.header (sealed_bytes cells) (Some Damaged) c.in_ok-header.ensures.reads.known (takes_sealed _ _ _ _ cells c.in_ok-header.ensures.reads.takes c.in_ok-numbers.ensures.takes c.in_ok-seal.ensures.takes) (le_refl (sealed_bytes cells))
 
 pub returns-in_default-clause-takes : goal.returns-in_default-clause-takes
 returns-in_default-clause-takes g c =
     let cells = 2 ^ c.in_ok-header.header.bits in
-    takes_within _ _ _ c.in_ok-header.header (sealed_bytes cells) (Some NotALayout) c.in_ok-header.ensures.known (takes_sealed _ _ _ _ cells c.in_ok-header.ensures.takes c.in_ok-numbers.ensures.takes c.in_ok-seal.ensures.takes) (le_refl (sealed_bytes cells))
+    takes_within _ _ _ c.in_ok-header.header (sealed_bytes cells) (Some NotALayout) c.in_ok-header.ensures.reads.known (takes_sealed _ _ _ _ cells c.in_ok-header.ensures.reads.takes c.in_ok-numbers.ensures.takes c.in_ok-seal.ensures.takes) (le_refl (sealed_bytes cells))
 
 pub returns-in_err-read_end-clause-takes : goal.returns-in_err-read_end-clause-takes
 returns-in_err-read_end-clause-takes g c =
     let p = err_from_is_err_and c.from_residual-in_err-read_end.result c.from_residual-in_err-read_end.ensures.1 in
     let cells = 2 ^ c.in_ok-header.header.bits in
-    rw (p.1, p.2) (file_stops_at_end _ _ _ _ _ c.in_ok-header.header _ c.in_ok-header.ensures.known c.in_err-read_end.ensures.no_memory (takes_sealed _ _ _ _ cells c.in_ok-header.ensures.takes c.in_ok-numbers.ensures.takes c.in_ok-seal.ensures.takes) c.in_err-read_end.ensures.takes c.in_err-read_end.ensures.known)
+    rw (p.1, p.2) (file_stops_at_end _ _ _ _ _ c.in_ok-header.header _ c.in_ok-header.ensures.reads.known c.in_err-read_end.ensures.no_memory (takes_sealed _ _ _ _ cells c.in_ok-header.ensures.reads.takes c.in_ok-numbers.ensures.takes c.in_ok-seal.ensures.takes) c.in_err-read_end.ensures.takes c.in_err-read_end.ensures.known)
 
 pub returns-clause-takes : goal.returns-clause-takes
 returns-clause-takes g c =
     let cells = 2 ^ c.in_ok-header.header.bits in
-    takes_within _ _ _ c.in_ok-header.header (whole_snap_bytes cells) None c.in_ok-header.ensures.known (takes_then _ _ _ (sealed_bytes cells) 1 (takes_sealed _ _ _ _ cells c.in_ok-header.ensures.takes c.in_ok-numbers.ensures.takes c.in_ok-seal.ensures.takes) c.in_ok-read_end.ensures.takes) (le_refl (whole_snap_bytes cells))
+    takes_within _ _ _ c.in_ok-header.header (whole_snap_bytes cells) None c.in_ok-header.ensures.reads.known (takes_then _ _ _ (sealed_bytes cells) 1 (takes_sealed _ _ _ _ cells c.in_ok-header.ensures.reads.takes c.in_ok-numbers.ensures.takes c.in_ok-seal.ensures.takes) c.in_ok-read_end.ensures.takes) (le_refl (whole_snap_bytes cells))
 
 pub returns-in_err-numbers-clause-bounded : goal.returns-in_err-numbers-clause-bounded
 returns-in_err-numbers-clause-bounded g c = takes_of_any_file _ _ (fault_of c.from_residual-in_err-numbers.result) (returns-in_err-numbers-clause-takes g c)
