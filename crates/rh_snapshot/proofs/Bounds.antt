@@ -111,42 +111,6 @@ end_fits X n Damaged r other ends fails = absurd (subst (λ r. IfErr r IsLong) f
 end_fits X n NotALayout r other ends fails = absurd (subst (λ r. IfErr r IsLong) fails ends)
 end_fits X n Long r other ends fails = omega arith
 
--- ---- a whole file
-
-cells_are : (bytes : List ℕ) (b : Option (List ℕ)) (header : Header) → HeaderRead (Some bytes) b (Ok header) → cells_said (Some bytes) ≡ 2 ^ header.bits
-cells_are bytes None header h = absurd h
-cells_are bytes (Some rest) header h = ap cells_in h
-
--- so many bytes were taken, which are no more than those of this fault
-pub takes_within : (a b d : Option (List ℕ)) (header : Header) (n : ℕ) (fault : Option SnapFault) → HeaderRead a b (Ok header) → TakesAtMost a d n → n ≤ snap_bytes (2 ^ header.bits) fault → TakesOfSnap a d fault
-takes_within None b d header n fault h t fits = takes_of_unknown d (snap_bytes 0 fault)
-takes_within (Some x) b d header n fault h t fits =
-    subst (λ cells. TakesAtMost (Some x) d (snap_bytes cells fault)) (sym (cells_are x b header h)) (takes_fewer (Some x) d n (snap_bytes (2 ^ header.bits) fault) t fits)
-
-pub file_stops_in_numbers : {N : Type 0} (v : N → List ℕ) (a b c : Option (List ℕ)) (header : Header) (e : SnapFault) → HeaderRead a b (Ok header) → TakesAtMost a b snap_header_bytes → TakesAtMost b c (numbers_taken (2 ^ header.bits) (Some e)) → ReadsSnap b c (numbers_at (2 ^ header.bits)) v (Err e) → TakesOfSnap a c (Some e)
-file_stops_in_numbers v None b c header e h s t fails = takes_of_unknown c (snap_bytes 0 (Some e))
-file_stops_in_numbers v (Some x) None c header e h s t fails = absurd h
-file_stops_in_numbers v (Some x) (Some y) c header e h s t fails =
-    takes_within (Some x) (Some y) c header (snap_header_bytes + numbers_taken (2 ^ header.bits) (Some e)) (Some e) h (takes_then (Some x) (Some y) c snap_header_bytes (numbers_taken (2 ^ header.bits) (Some e)) s t)
-    (numbers_fit (2 ^ header.bits) e (numbers_at (2 ^ header.bits) y) (numbers_later (2 ^ header.bits) y) fails)
-
-pub takes_sealed : (a b c d : Option (List ℕ)) (n : ℕ) → TakesAtMost a b snap_header_bytes → TakesAtMost b c (8 * n) → TakesAtMost c d seal_bytes → TakesAtMost a d (sealed_bytes n)
-takes_sealed a b c d n s t u = takes_then a c d (snap_header_bytes + 8 * n) seal_bytes (takes_then a b c snap_header_bytes (8 * n) s t) u
-
-pub file_stops_in_seal : {S : Type 0} (v : S → List ℕ) (a b c d : Option (List ℕ)) (header : Header) (e : SnapFault) → HeaderRead a b (Ok header) → (IsErrOf {T = S} (Err e) faults.Memory → ⊥) → TakesAtMost a c (snap_header_bytes + 8 * 2 ^ header.bits) → TakesAtMost c d seal_bytes → ReadsSnap c d (bytes_at Short 32) v (Err e) → TakesOfSnap a d (Some e)
-file_stops_in_seal v None b c d header e h other s t fails = takes_of_unknown d (snap_bytes 0 (Some e))
-file_stops_in_seal v (Some x) b None d header e h other s t fails = absurd s.consumed
-file_stops_in_seal {S = S} v (Some x) b (Some z) d header e h other s t fails =
-    takes_within (Some x) b d header (sealed_bytes (2 ^ header.bits)) (Some e) h (takes_then (Some x) (Some z) d (snap_header_bytes + 8 * 2 ^ header.bits) seal_bytes s t)
-    (seal_fits S (2 ^ header.bits) e (bytes_at Short 32 z) other (bytes_told IsLater Short tt 32 z) fails)
-
-pub file_stops_at_end : {X : Type 0} (v : X → List ℕ) (a b c d : Option (List ℕ)) (header : Header) (e : SnapFault) → HeaderRead a b (Ok header) → (IsErrOf {T = X} (Err e) faults.Memory → ⊥) → TakesAtMost a c (sealed_bytes (2 ^ header.bits)) → TakesAtMost c d 1 → ReadsSnap c d (end_at Long) v (Err e) → TakesOfSnap a d (Some e)
-file_stops_at_end v None b c d header e h other s t fails = takes_of_unknown d (snap_bytes 0 (Some e))
-file_stops_at_end v (Some x) b None d header e h other s t fails = absurd s.consumed
-file_stops_at_end {X = X} v (Some x) b (Some z) d header e h other s t fails =
-    takes_within (Some x) b d header (whole_snap_bytes (2 ^ header.bits)) (Some e) h (takes_then (Some x) (Some z) d (sealed_bytes (2 ^ header.bits)) 1 s t)
-    (end_fits X (2 ^ header.bits) e (end_at Long z) other (end_told IsLong Long tt z) fails)
-
 -- ---- any file
 
 at_most_bits : (version : Version) (bits : ℕ) → InRange version bits → bits ≤ MAX_BITS
@@ -172,5 +136,44 @@ file_fits cells (Some Damaged) few = omega (arith, few)
 file_fits cells (Some NotALayout) few = omega (arith, few)
 file_fits cells (Some Long) few = omega (arith, few)
 
-pub takes_of_any_file : (a b : Option (List ℕ)) (fault : Option SnapFault) → TakesOfSnap a b fault → TakesAtMost a b most_snap_bytes
-takes_of_any_file a b fault t = takes_fewer a b (snap_bytes (cells_said a) fault) most_snap_bytes t (file_fits (cells_said a) fault (cells_few a))
+of_file : (a b : Option (List ℕ)) (fault : Option SnapFault) → TakesAtMost a b (snap_bytes (cells_said a) fault) → TakesOfSnap a b fault
+of_file a b fault t = record { taken = t; bounded = takes_fewer a b (snap_bytes (cells_said a) fault) most_snap_bytes t (file_fits (cells_said a) fault (cells_few a)) }
+
+of_unknown : (b : Option (List ℕ)) (fault : Option SnapFault) → TakesOfSnap None b fault
+of_unknown b fault = of_file None b fault (takes_of_unknown b (snap_bytes 0 fault))
+
+-- ---- a whole file
+
+cells_are : (bytes : List ℕ) (b : Option (List ℕ)) (header : Header) → HeaderRead (Some bytes) b (Ok header) → cells_said (Some bytes) ≡ 2 ^ header.bits
+cells_are bytes None header h = absurd h
+cells_are bytes (Some rest) header h = ap cells_in h
+
+-- so many bytes were taken, which are no more than those of this fault
+pub takes_within : (a b d : Option (List ℕ)) (header : Header) (n : ℕ) (fault : Option SnapFault) → HeaderRead a b (Ok header) → TakesAtMost a d n → n ≤ snap_bytes (2 ^ header.bits) fault → TakesOfSnap a d fault
+takes_within None b d header n fault h t fits = of_unknown d fault
+takes_within (Some x) b d header n fault h t fits =
+    of_file (Some x) d fault (subst (λ cells. TakesAtMost (Some x) d (snap_bytes cells fault)) (sym (cells_are x b header h)) (takes_fewer (Some x) d n (snap_bytes (2 ^ header.bits) fault) t fits))
+
+pub file_stops_in_numbers : {N : Type 0} (v : N → List ℕ) (a b c : Option (List ℕ)) (header : Header) (e : SnapFault) → HeaderRead a b (Ok header) → TakesAtMost a b snap_header_bytes → TakesAtMost b c (numbers_taken (2 ^ header.bits) (Some e)) → ReadsSnap b c (numbers_at (2 ^ header.bits)) v (Err e) → TakesOfSnap a c (Some e)
+file_stops_in_numbers v None b c header e h s t fails = of_unknown c (Some e)
+file_stops_in_numbers v (Some x) None c header e h s t fails = absurd h
+file_stops_in_numbers v (Some x) (Some y) c header e h s t fails =
+    takes_within (Some x) (Some y) c header (snap_header_bytes + numbers_taken (2 ^ header.bits) (Some e)) (Some e) h (takes_then (Some x) (Some y) c snap_header_bytes (numbers_taken (2 ^ header.bits) (Some e)) s t)
+    (numbers_fit (2 ^ header.bits) e (numbers_at (2 ^ header.bits) y) (numbers_later (2 ^ header.bits) y) fails)
+
+pub takes_sealed : (a b c d : Option (List ℕ)) (n : ℕ) → TakesAtMost a b snap_header_bytes → TakesAtMost b c (8 * n) → TakesAtMost c d seal_bytes → TakesAtMost a d (sealed_bytes n)
+takes_sealed a b c d n s t u = takes_then a c d (snap_header_bytes + 8 * n) seal_bytes (takes_then a b c snap_header_bytes (8 * n) s t) u
+
+pub file_stops_in_seal : {S : Type 0} (v : S → List ℕ) (a b c d : Option (List ℕ)) (header : Header) (e : SnapFault) → HeaderRead a b (Ok header) → (IsErrOf {T = S} (Err e) faults.Memory → ⊥) → TakesAtMost a c (snap_header_bytes + 8 * 2 ^ header.bits) → TakesAtMost c d seal_bytes → ReadsSnap c d (bytes_at Short 32) v (Err e) → TakesOfSnap a d (Some e)
+file_stops_in_seal v None b c d header e h other s t fails = of_unknown d (Some e)
+file_stops_in_seal v (Some x) b None d header e h other s t fails = absurd s.consumed
+file_stops_in_seal {S = S} v (Some x) b (Some z) d header e h other s t fails =
+    takes_within (Some x) b d header (sealed_bytes (2 ^ header.bits)) (Some e) h (takes_then (Some x) (Some z) d (snap_header_bytes + 8 * 2 ^ header.bits) seal_bytes s t)
+    (seal_fits S (2 ^ header.bits) e (bytes_at Short 32 z) other (bytes_told IsLater Short tt 32 z) fails)
+
+pub file_stops_at_end : {X : Type 0} (v : X → List ℕ) (a b c d : Option (List ℕ)) (header : Header) (e : SnapFault) → HeaderRead a b (Ok header) → (IsErrOf {T = X} (Err e) faults.Memory → ⊥) → TakesAtMost a c (sealed_bytes (2 ^ header.bits)) → TakesAtMost c d 1 → ReadsSnap c d (end_at Long) v (Err e) → TakesOfSnap a d (Some e)
+file_stops_at_end v None b c d header e h other s t fails = of_unknown d (Some e)
+file_stops_at_end v (Some x) b None d header e h other s t fails = absurd s.consumed
+file_stops_at_end {X = X} v (Some x) b (Some z) d header e h other s t fails =
+    takes_within (Some x) b d header (whole_snap_bytes (2 ^ header.bits)) (Some e) h (takes_then (Some x) (Some z) d (sealed_bytes (2 ^ header.bits)) 1 s t)
+    (end_fits X (2 ^ header.bits) e (end_at Long z) other (end_told IsLong Long tt z) fails)

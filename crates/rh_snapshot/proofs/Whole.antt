@@ -1,12 +1,12 @@
 -- A whole snapshot, read by its header, its numbers, its seal and its end.
-use Rattle.std.proofs.Common.{◌≡◌, ℕ, ◌^◌, true, false, List, Option, Some, None, Result, Ok, Err, refl}
+use Rattle.std.proofs.Common.{◌≡◌, ℕ, ◌^◌, true, false, List, [], Option, Some, None, Result, Ok, Err, refl}
 use Rattle.rh_bytes.specs.Input.{◌>>=◌, bytes_at, end_at}
-use Rattle.rh_bytes.proofs.Reading.{Fails-then}
+use Rattle.rh_bytes.proofs.Reading.{Reads-err, Reads-fails, Reads-ok, Reads-then}
 use Rattle.rh_snapshot.specs.declared.header.Header.{Header}
 use Rattle.rh_snapshot.specs.declared.fault.SnapFault.{SnapFault}
 use Rattle.rh_snapshot.specs.declared.fault.SnapFault.TheVariants.{Damaged, NotALayout, Long, Short}
 use Rattle.rh_snapshot.specs.Snapshot.{Table, table_with}
-use Rattle.rh_snapshot.specs.Reading.{SnapFails, ReadsSnap, BeginsWithSnapHeader, snap_header_at, numbers_at, is_sealed, is_table, table_in, after_snap_header, after_numbers, snap_ended, file_table, is_snap_silent}
+use Rattle.rh_snapshot.specs.Reading.{ReadsSnap, BeginsWithSnapHeader, snap_header_at, numbers_at, is_sealed, is_table, table_in, after_snap_header, after_numbers, snap_ended, file_table, is_snap_silent}
 
 abbrev pub HeaderRead : (a b : Option (List ℕ)) → Result Header SnapFault → Type 0
 HeaderRead a b r = ReadsSnap a b snap_header_at (λ (h : Header). h) r
@@ -14,59 +14,49 @@ HeaderRead a b r = ReadsSnap a b snap_header_at (λ (h : Header). h) r
 abbrev SealRead : (c d : Option (List ℕ)) → Result (List ℕ) SnapFault → Type 0
 SealRead c d r = ReadsSnap c d (bytes_at Short 32) (λ (s : List ℕ). s) r
 
-pub header_faults : {X : Type 0} (view : X → Table) (a b last : Option (List ℕ)) (e : SnapFault) → HeaderRead a b (Err e) → ReadsSnap a last file_table view (Err e)
-unfolding file_table
-header_faults view None b last e p = tt
-header_faults view (Some x) b last e p = Fails-then is_snap_silent e (snap_header_at x) after_snap_header p
-
-module _ {X N : Type 0} (view : X → Table) (numbers_of : N → List ℕ) where
-  abbrev NumbersRead : (b c : Option (List ℕ)) → Header → Result N SnapFault → Type 0
-  NumbersRead b c header r = ReadsSnap b c (numbers_at (2 ^ header.bits)) numbers_of r
-
-  pub numbers_fault : (a b c last : Option (List ℕ)) (header : Header) (e : SnapFault) → HeaderRead a b (Ok header) → NumbersRead b c header (Err e) → ReadsSnap a last file_table view (Err e)
+module _ {X : Type 0} (view : X → Table) where
+  pub header_faults : (a b : Option (List ℕ)) (e : SnapFault) → HeaderRead a b (Err e) → ReadsSnap a b file_table view (Err e)
   unfolding file_table
-  numbers_fault None b c last header e p q = tt
-  numbers_fault (Some x) None c last header e p q = absurd p
-  numbers_fault (Some x) (Some y) c last header e p q = rw p (Fails-then is_snap_silent e (numbers_at (2 ^ header.bits) y) (after_numbers header) q)
+  header_faults a b e p = Reads-fails is_snap_silent a b b snap_header_at after_snap_header (λ (h : Header). h) view e p
 
-  pub seal_faults : (a b c d last : Option (List ℕ)) (header : Header) (n : N) (e : SnapFault) → HeaderRead a b (Ok header) → NumbersRead b c header (Ok n) → SealRead c d (Err e) → ReadsSnap a last file_table view (Err e)
-  unfolding file_table
-  seal_faults None b c d last header n e p q r = tt
-  seal_faults (Some x) None c d last header n e p q r = absurd p
-  seal_faults (Some x) (Some y) None d last header n e p q r = absurd q
-  seal_faults (Some x) (Some y) (Some z) d last header n e p q r =
-      rw (p, q) (Fails-then is_snap_silent e (bytes_at Short 32 z) (λ seal. table_in header (numbers_of n) seal.0 >>= snap_ended seal.1) r)
+  module _ {N : Type 0} (numbers_of : N → List ℕ) (header : Header) (a b : Option (List ℕ)) (begun : HeaderRead a b (Ok header)) where
+    abbrev NumbersRead : (c : Option (List ℕ)) → Result N SnapFault → Type 0
+    NumbersRead c r = ReadsSnap b c (numbers_at (2 ^ header.bits)) numbers_of r
 
-  -- what was read, and is no table
-  pub refused : (a b c d last : Option (List ℕ)) (header : Header) (n : N) (seal : List ℕ) (e : SnapFault) → HeaderRead a b (Ok header) → NumbersRead b c header (Ok n) → SealRead c d (Ok seal) → SnapFails e (table_in header (numbers_of n) seal)
-      → ReadsSnap a last file_table view (Err e)
-  unfolding file_table
-  refused None b c d last header n seal e p q r bad = tt
-  refused (Some x) None c d last header n seal e p q r bad = absurd p
-  refused (Some x) (Some y) None d last header n seal e p q r bad = absurd q
-  refused (Some x) (Some y) (Some z) None last header n seal e p q r bad = absurd r
-  refused (Some x) (Some y) (Some z) (Some w) last header n seal e p q r bad =
-      rw (p, q, r) (Fails-then is_snap_silent e (table_in header (numbers_of n) seal) (snap_ended w) bad)
+    behind_header : (c : Option (List ℕ)) (r : Result X SnapFault) → ReadsSnap b c (λ bytes. after_snap_header (header, bytes)) view r → ReadsSnap a c file_table view r
+    unfolding file_table
+    behind_header c r later = Reads-then is_snap_silent a b c snap_header_at after_snap_header (λ (h : Header). h) view header r begun later
 
-  pub end_faults : (a b c d d' last : Option (List ℕ)) (header : Header) (n : N) (seal : List ℕ) (v : Unit {0} → List ℕ) (e : SnapFault) → HeaderRead a b (Ok header) → NumbersRead b c header (Ok n) → SealRead c d (Ok seal)
-      → table_in header (numbers_of n) seal ≡ Ok (table_with header (numbers_of n) seal) → ReadsSnap d d' (end_at Long) v (Err e) → ReadsSnap a last file_table view (Err e)
-  unfolding file_table
-  end_faults None b c d d' last header n seal v e p q r good s = tt
-  end_faults (Some x) None c d d' last header n seal v e p q r good s = absurd p
-  end_faults (Some x) (Some y) None d d' last header n seal v e p q r good s = absurd q
-  end_faults (Some x) (Some y) (Some z) None d' last header n seal v e p q r good s = absurd r
-  end_faults (Some x) (Some y) (Some z) (Some w) d' last header n seal v e p q r good s =
-      rw (p, q, r, good) (Fails-then is_snap_silent e (end_at Long w) (λ end. Ok (table_with header (numbers_of n) seal, end.1)) s)
+    pub numbers_fault : (c : Option (List ℕ)) (e : SnapFault) → NumbersRead c (Err e) → ReadsSnap a c file_table view (Err e)
+    numbers_fault c e q = behind_header c (Err e) (Reads-fails is_snap_silent b c c (numbers_at (2 ^ header.bits)) (after_numbers header) numbers_of view e q)
 
-  pub whole_ok : (a b c d last : Option (List ℕ)) (header : Header) (n : N) (seal : List ℕ) (v : Unit {0} → List ℕ) (done : X) → view done ≡ table_with header (numbers_of n) seal → HeaderRead a b (Ok header) → NumbersRead b c header (Ok n) → SealRead c d (Ok seal)
-      → table_in header (numbers_of n) seal ≡ Ok (table_with header (numbers_of n) seal) → ReadsSnap d last (end_at Long) v (Ok tt) → ReadsSnap a last file_table view (Ok done)
-  unfolding file_table
-  whole_ok None b c d last header n seal v done is p q r good s = tt
-  whole_ok (Some x) None c d last header n seal v done is p q r good s = absurd p
-  whole_ok (Some x) (Some y) None d last header n seal v done is p q r good s = absurd q
-  whole_ok (Some x) (Some y) (Some z) None last header n seal v done is p q r good s = absurd r
-  whole_ok (Some x) (Some y) (Some z) (Some w) None header n seal v done is p q r good s = absurd s
-  whole_ok (Some x) (Some y) (Some z) (Some w) (Some u) header n seal v done is p q r good s = rw (p, q, r, good, s, is) refl
+    module _ (c : Option (List ℕ)) (n : N) (read : NumbersRead c (Ok n)) where
+      -- the seal and then the table, of the numbers that were read
+      abbrev sealed_table : List ℕ × List ℕ → Result (Table × List ℕ) SnapFault
+      sealed_table seal = table_in header (numbers_of n) seal.0 >>= snap_ended seal.1
+
+      behind_numbers : (d : Option (List ℕ)) (r : Result X SnapFault) → ReadsSnap c d (λ bytes. bytes_at Short 32 bytes >>= sealed_table) view r → ReadsSnap a d file_table view r
+      behind_numbers d r later = behind_header d r (Reads-then is_snap_silent b c d (numbers_at (2 ^ header.bits)) (after_numbers header) numbers_of view n r read later)
+
+      pub seal_faults : (d : Option (List ℕ)) (e : SnapFault) → SealRead c d (Err e) → ReadsSnap a d file_table view (Err e)
+      seal_faults d e q = behind_numbers d (Err e) (Reads-fails is_snap_silent c d d (bytes_at Short 32) sealed_table (λ (s : List ℕ). s) view e q)
+
+      module _ (d : Option (List ℕ)) (seal : List ℕ) (tested : SealRead c d (Ok seal)) where
+        behind_seal : (last : Option (List ℕ)) (r : Result X SnapFault) → ReadsSnap d last (λ bytes. table_in header (numbers_of n) seal >>= snap_ended bytes) view r → ReadsSnap a last file_table view r
+        behind_seal last r later = behind_numbers last r (Reads-then is_snap_silent c d last (bytes_at Short 32) sealed_table (λ (s : List ℕ). s) view seal r tested later)
+
+        -- what was read, and is no table
+        pub refused : (e : SnapFault) → table_in header (numbers_of n) seal ≡ Err e → ReadsSnap a d file_table view (Err e)
+        refused e bad = behind_seal d (Err e) (Reads-err is_snap_silent d d (λ bytes. table_in header (numbers_of n) seal >>= snap_ended bytes) view e (λ bytes. rw bad refl))
+
+        module _ (good : table_in header (numbers_of n) seal ≡ Ok (table_with header (numbers_of n) seal)) (v : Unit {0} → List ℕ) (last : Option (List ℕ)) where
+          pub end_faults : (e : SnapFault) → ReadsSnap d last (end_at Long) v (Err e) → ReadsSnap a last file_table view (Err e)
+          end_faults e q = behind_seal last (Err e) (rw good (Reads-fails is_snap_silent d last last (end_at Long) (λ end. Ok (table_with header (numbers_of n) seal, end.1)) v view e q))
+
+          pub whole_ok : (done : X) → view done ≡ table_with header (numbers_of n) seal → ReadsSnap d last (end_at Long) v (Ok tt) → ReadsSnap a last file_table view (Ok done)
+          whole_ok done is q =
+              let ended : List ℕ × List ℕ → Result (Table × List ℕ) SnapFault = λ end. Ok (table_with header (numbers_of n) seal, end.1) in
+              behind_seal last (Ok done) (rw good (Reads-then is_snap_silent d last last (end_at Long) ended v view tt (Ok done) q (Reads-ok is_snap_silent last (λ bytes. ended ([], bytes)) view done (λ bytes. rw is refl))))
 
 -- ---- what was read, tested
 

@@ -58,6 +58,8 @@ abbrev pub cells_said : Option (List ℕ) → ℕ
 cells_said None = 0
 cells_said (Some bytes) = cells_in (snap_header_at bytes)
 
--- A whole file was read, up to this fault if there is one, and the bytes behind that are still there.
-abbrev pub TakesOfSnap : (old new : Option (List ℕ)) → Option SnapFault → Type 0
-TakesOfSnap old new fault = TakesAtMost old new (snap_bytes (cells_said old) fault)
+-- A whole file was read, up to this fault if there is one, and the bytes behind that are still there. They are no more than those of
+-- the largest snapshot.
+pub record TakesOfSnap (old new : Option (List ℕ)) (fault : Option SnapFault) : Type 0 where
+  pub taken : TakesAtMost old new (snap_bytes (cells_said old) fault)
+  pub bounded : TakesAtMost old new most_snap_bytes

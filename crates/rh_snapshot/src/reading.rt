@@ -4,9 +4,8 @@ ghost use Rattle.std.specs.Prelude.{◌≡◌, ◌<◌, ◌^◌, IfOk, IsErrOf};
 ghost use Rattle.std.specs.FinSet as set;
 ghost use Rattle.rh_layout.specs.Layout.{IsLayout, keys_of};
 ghost use Rattle.rh_bytes.specs.Counting.{CountsFault, inner_of};
-ghost use Rattle.rh_bytes.specs.Taking.{TakesAtMost};
 ghost use Rattle.rh_bytes.specs.Input.{fault_of};
-ghost use Rattle.rh_snapshot.specs.Limits.{TakesOfSnap, most_snap_bytes};
+ghost use Rattle.rh_snapshot.specs.Limits.{TakesOfSnap};
 ghost use Rattle.rh_snapshot.specs.Reading.{BeginsWithSnapHeader, IsSnapReadFrom, ReadsSnap, file_table};
 ghost use Rattle.rh_snapshot.specs.Reading.{table_as};
 
@@ -33,8 +32,6 @@ pub fn read_snapshot<R: Read>(alloc: Global, reader: &mut Counted<R>) -> Result<
     ensures free { IfOk result (λ s. set.len (keys_of s.cells.items) < 2 ^ s.bits) }
     ensures takes { TakesOfSnap (R.remaining (inner_of reader.old))
         (R.remaining (inner_of reader.new)) (fault_of result) }
-    ensures bounded { TakesAtMost (R.remaining (inner_of reader.old))
-        (R.remaining (inner_of reader.new)) most_snap_bytes }
     ensures counts { CountsFault SnapFault.Read reader.old reader.new result }
     ensures memory { IsErrOf result SnapFault.Memory →
         BeginsWithSnapHeader (R.remaining (inner_of reader.old)) }
