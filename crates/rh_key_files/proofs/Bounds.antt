@@ -31,6 +31,13 @@ count_later : (bytes : List ℕ) → IfErr (count_at bytes) IsLater
 unfolding count_at
 count_later bytes = then_told IsLater (number_at Short bytes) few (number_told IsLater Short tt bytes) few_later
 
+magic_within : (e : KeyFault) → magic_bytes ≤ header_taken (Some e)
+magic_within NotKeys = omega arith
+magic_within e = omega arith
+
+pub magic_stops : (a b : Option (List ℕ)) (e : KeyFault) → TakesAtMost a b magic_bytes → TakesAtMost a b (header_taken (Some e))
+magic_stops a b e t = takes_fewer a b magic_bytes (header_taken (Some e)) t (magic_within e)
+
 pub header_stops : (a b c : Option (List ℕ)) (e : KeyFault) → TakesAtMost a b magic_bytes → TakesAtMost b c 8 → ReadsKeys b c count_at (λ (n : ℕ). n) (Err e) → TakesAtMost a c (header_taken (Some e))
 header_stops None b c e s t h = takes_of_unknown c (header_taken (Some e))
 header_stops (Some x) None c e s t h = absurd s.consumed
@@ -84,6 +91,32 @@ keys_stop v version index done at many all (Some x) (Some y) c e place fits with
     takes_both (Some x) (Some y) c (8 * done) (8 * many) (8 * keys_taken index all (Some e)) s t
     (part_within index done many all e (keys_at version at many y) fits within (rw place (keys_come version (index + done) many y)) h)
 
+-- ---- any file
+
+few_said : (r : Result (Header × List ℕ) KeyFault) (bytes : List ℕ) → header_at bytes ≡ r → count_in r ≤ MAX_KEYS
+few_said (Ok p) bytes h = (header_read bytes p h).1
+few_said (Err e) bytes h = omega arith
+
+count_few : (a : Option (List ℕ)) → count_said a ≤ MAX_KEYS
+count_few None = omega arith
+count_few (Some bytes) = few_said (header_at bytes) bytes refl
+
+file_fits : (count : ℕ) (fault : Option KeyFault) → count ≤ MAX_KEYS → file_bytes count fault ≤ most_bytes
+file_fits count None few = omega (arith, few)
+file_fits count (Some faults.Read) few = omega (arith, few)
+file_fits count (Some faults.Memory) few = omega (arith, few)
+file_fits count (Some NotKeys) few = omega (arith, few)
+file_fits count (Some Short) few = omega (arith, few)
+file_fits count (Some TooMany) few = omega (arith, few)
+file_fits count (Some (BadKey index)) few = omega (arith, few)
+file_fits count (Some Long) few = omega (arith, few)
+
+of_file : (a b : Option (List ℕ)) (fault : Option KeyFault) → TakesAtMost a b (file_bytes (count_said a) fault) → TakesOfFile a b fault
+of_file a b fault t = record { taken = t; bounded = takes_fewer a b (file_bytes (count_said a) fault) most_bytes t (file_fits (count_said a) fault (count_few a)) }
+
+of_unknown : (b : Option (List ℕ)) (fault : Option KeyFault) → TakesOfFile None b fault
+of_unknown b fault = of_file None b fault (takes_of_unknown b (file_bytes 0 fault))
+
 -- ---- a whole file
 
 -- the bytes do not end
@@ -121,47 +154,24 @@ count_is bytes None version count h = absurd h.read
 count_is bytes (Some rest) version count h = ap count_in h.read ∙ sym h.same
 
 pub file_stops_in_keys : {X : Type 0} (a b c : Option (List ℕ)) (version : Version) (count : ℕ) (v : X → List ℕ) (e : KeyFault) → HeaderRead a b version count → (IsErrOf {T = X} (Err e) faults.Memory → ⊥) → TakesAtMost b c (8 * keys_taken 0 count (Some e)) → ReadsKeys b c (keys_at version 0 count) v (Err e) → TakesOfFile a c (Some e)
-file_stops_in_keys None b c version count v e h other t fails = takes_of_unknown c (file_bytes 0 (Some e))
+file_stops_in_keys None b c version count v e h other t fails = of_unknown c (Some e)
 file_stops_in_keys (Some x) None c version count v e h other t fails = absurd h.read
 file_stops_in_keys {X = X} (Some x) (Some y) c version count v e h other t fails =
-    subst (λ n. TakesAtMost (Some x) c (file_bytes n (Some e))) (sym (count_is x (Some y) version count h)) (takes_both (Some x) (Some y) c header_bytes (8 * keys_taken 0 count (Some e)) (file_bytes count (Some e)) h.taken t
-    (keys_fit X count e (keys_at version 0 count y) other (keys_come version 0 count y) fails))
+    of_file (Some x) c (Some e) (subst (λ n. TakesAtMost (Some x) c (file_bytes n (Some e))) (sym (count_is x (Some y) version count h)) (takes_both (Some x) (Some y) c header_bytes (8 * keys_taken 0 count (Some e)) (file_bytes count (Some e)) h.taken t
+    (keys_fit X count e (keys_at version 0 count y) other (keys_come version 0 count y) fails)))
 
 pub file_stops_at_end : {X : Type 0} (a b c d : Option (List ℕ)) (version : Version) (count : ℕ) (v : X → List ℕ) (e : KeyFault) → HeaderRead a b version count → (IsErrOf {T = X} (Err e) faults.Memory → ⊥) → TakesAtMost b c (8 * count) → TakesAtMost c d 1 → ReadsKeys c d (end_at Long) v (Err e) → TakesOfFile a d (Some e)
-file_stops_at_end None b c d version count v e h other s t fails = takes_of_unknown d (file_bytes 0 (Some e))
+file_stops_at_end None b c d version count v e h other s t fails = of_unknown d (Some e)
 file_stops_at_end (Some x) None c d version count v e h other s t fails = absurd h.read
 file_stops_at_end (Some x) (Some y) None d version count v e h other s t fails = absurd s.consumed
 file_stops_at_end {X = X} (Some x) (Some y) (Some z) d version count v e h other s t fails =
-    subst (λ n. TakesAtMost (Some x) d (file_bytes n (Some e))) (sym (count_is x (Some y) version count h)) (takes_both (Some x) (Some z) d (header_bytes + 8 * count) 1 (file_bytes count (Some e)) (takes_then (Some x) (Some y) (Some z) header_bytes (8 * count) h.taken s) t
-    (end_fits X count e (end_at Long z) other (end_told IsLong Long tt z) fails))
+    of_file (Some x) d (Some e) (subst (λ n. TakesAtMost (Some x) d (file_bytes n (Some e))) (sym (count_is x (Some y) version count h)) (takes_both (Some x) (Some z) d (header_bytes + 8 * count) 1 (file_bytes count (Some e)) (takes_then (Some x) (Some y) (Some z) header_bytes (8 * count) h.taken s) t
+    (end_fits X count e (end_at Long z) other (end_told IsLong Long tt z) fails)))
 
 pub file_taken : (a b c d : Option (List ℕ)) (version : Version) (count : ℕ) → HeaderRead a b version count → TakesAtMost b c (8 * count) → TakesAtMost c d 1 → TakesOfFile a d None
-file_taken None b c d version count h s t = takes_of_unknown d (whole_bytes 0)
+file_taken None b c d version count h s t = of_unknown d None
 file_taken (Some x) b c d version count h s t =
-    subst (λ n. TakesAtMost (Some x) d (whole_bytes n)) (sym (count_is x b version count h)) (takes_then (Some x) c d (header_bytes + 8 * count) 1 (takes_then (Some x) b c header_bytes (8 * count) h.taken s) t)
+    of_file (Some x) d None (subst (λ n. TakesAtMost (Some x) d (whole_bytes n)) (sym (count_is x b version count h)) (takes_then (Some x) c d (header_bytes + 8 * count) 1 (takes_then (Some x) b c header_bytes (8 * count) h.taken s) t))
 
 pub of_file_moved : (a b d : Option (List ℕ)) (fault : Option KeyFault) → d ≡ b → TakesOfFile a b fault → TakesOfFile a d fault
 of_file_moved a b d fault e t = rw e t
-
--- ---- any file
-
-few_said : (r : Result (Header × List ℕ) KeyFault) (bytes : List ℕ) → header_at bytes ≡ r → count_in r ≤ MAX_KEYS
-few_said (Ok p) bytes h = (header_read bytes p h).1
-few_said (Err e) bytes h = omega arith
-
-count_few : (a : Option (List ℕ)) → count_said a ≤ MAX_KEYS
-count_few None = omega arith
-count_few (Some bytes) = few_said (header_at bytes) bytes refl
-
-file_fits : (count : ℕ) (fault : Option KeyFault) → count ≤ MAX_KEYS → file_bytes count fault ≤ most_bytes
-file_fits count None few = omega (arith, few)
-file_fits count (Some faults.Read) few = omega (arith, few)
-file_fits count (Some faults.Memory) few = omega (arith, few)
-file_fits count (Some NotKeys) few = omega (arith, few)
-file_fits count (Some Short) few = omega (arith, few)
-file_fits count (Some TooMany) few = omega (arith, few)
-file_fits count (Some (BadKey index)) few = omega (arith, few)
-file_fits count (Some Long) few = omega (arith, few)
-
-pub takes_of_any_file : (a b : Option (List ℕ)) (fault : Option KeyFault) → TakesOfFile a b fault → TakesAtMost a b most_bytes
-takes_of_any_file a b fault t = takes_fewer a b (file_bytes (count_said a) fault) most_bytes t (file_fits (count_said a) fault (count_few a))

@@ -79,6 +79,9 @@ pub record IsFilled (part keys : List ℕ) (n : ℕ) (front : List ℕ) : Type 0
   pub first : front ≡ take (n / 8) keys
   pub small : All FitsEight keys
 
+pub is_filled : (part keys : List ℕ) (n : ℕ) → spelled_keys keys ≡ part → length part ≡ 8 * length keys → n ≤ length part → All FitsEight keys → IsFilled part keys n (take (n / 8) keys)
+is_filled part keys n spelled many within small = record { spelled = spelled; many = many; within = within; first = refl; small = small }
+
 -- the bytes of a key that is not whole
 abbrev half_key : (part : List ℕ) (n : ℕ) → List ℕ
 half_key part n = drop (8 * (n / 8)) (take n part)

@@ -1,6 +1,7 @@
 pub mod KeyFile
 pub mod Reading
 pub mod Limits
+pub mod Parts
 pub mod Source
 pub mod State
 pub mod Stream

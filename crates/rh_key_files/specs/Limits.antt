@@ -61,9 +61,11 @@ abbrev pub count_said : Option (List ℕ) → ℕ
 count_said None = 0
 count_said (Some bytes) = count_in (header_at bytes)
 
--- A whole file was read, up to this fault if there is one, and the bytes behind that are still there.
-abbrev pub TakesOfFile : (old new : Option (List ℕ)) → Option KeyFault → Type 0
-TakesOfFile old new fault = TakesAtMost old new (file_bytes (count_said old) fault)
+-- A whole file was read, up to this fault if there is one, and the bytes behind that are still there. They are no more than those of
+-- the largest file.
+pub record TakesOfFile (old new : Option (List ℕ)) (fault : Option KeyFault) : Type 0 where
+  pub taken : TakesAtMost old new (file_bytes (count_said old) fault)
+  pub bounded : TakesAtMost old new most_bytes
 
 -- ---- a file of any number of keys
 

@@ -1,16 +1,19 @@
 -- What is known of a stream of keys: its header, how far it is, and what it answers once it is over.
-use Rattle.std.specs.Prelude.{ℕ, ◌-◌, List, [], Option, Some, None, Result, Ok, Err, ◌==◌, if◌then◌else◌, option_map}
+use Rattle.std.specs.Prelude.{◌≡◌, ℕ, ◌+◌, ◌-◌, ◌<◌, min, List, [], length, Option, Some, None, Result, Ok, Err, IfOk, IsErrOf, ◌==◌, if◌then◌else◌, option_map}
 use Rattle.std.specs.Borrow.{GName}
 use Rattle.rh_bytes.specs.declared.counted.Counted.{Counted}
 use Rattle.rh_key_files.specs.declared.fault.KeyFault.{KeyFault}
+use Rattle.rh_key_files.specs.declared.fault.KeyFault.TheVariants.{Read}
 use Rattle.rh_key_files.specs.declared.version.Version.{Version}
 use Rattle.rh_key_files.specs.declared.header.Header.{Header}
 use Rattle.rh_key_files.specs.declared.stream.KeyStream.{KeyStream}
 use Rattle.rh_key_files.specs.declared.stream.State.{State}
 use Rattle.rh_key_files.specs.declared.stream.State.TheVariants.{Open, Ended, Failed}
 use Rattle.rh_bytes.specs.Counting.{inner_of}
-use Rattle.rh_bytes.specs.Input.{◌>>=◌}
-use Rattle.rh_key_files.specs.Reading.{ReadsKeys, keys_ended, header_at, keys_at}
+use Rattle.rh_bytes.specs.Input.{◌>>=◌, fault_of}
+use Rattle.rh_key_files.specs.Limits.{batch_bytes}
+use Rattle.rh_key_files.specs.Parts.{ReadsList}
+use Rattle.rh_key_files.specs.Reading.{CutShort, ReadsKeys, batch_at, front_of, header_at, keys_at, keys_ended}
 use Rattle.rh_key_files.specs.Source.{Coming, keys_in}
 
 -- the reader that the stream took on loan
@@ -52,6 +55,21 @@ abbrev pub answer_again : State → Result ℕ KeyFault
 answer_again Open = Ok 0
 answer_again Ended = Ok 0
 answer_again (Failed e) = Err e
+
+-- An open stream puts its next keys at the front of the batch. Where none is left, it tests the end.
+pub record GivesBatch {R : Type 0} (bytes_of : R → Option (List ℕ)) (old new : KeyStream R) (batch : List ℕ) (r : Result ℕ KeyFault) : Type 0 where
+  pub reads : ReadsList bytes_of (reader_of old) (reader_of new) (batch_at (version_of old) (taken_of old) (left_of old) (length batch)) (front_of batch) (batch_bytes (taken_of old) (left_of old) (length batch) (fault_of r)) r
+  pub tested : IsErrOf r Read → 0 < left_of old → CutShort (bytes_of (inner_of (reader_of old))) (bytes_of (inner_of (reader_of new))) (batch_at (version_of old) (taken_of old) (left_of old) (length batch))
+  pub many : IfOk r (λ n. n ≡ min (length batch) (left_of old))
+  pub taken : IfOk r (λ n. taken_of new ≡ taken_of old + n)
+  pub goes_on : state_of new ≡ state_after (left_of old) r
+
+-- A stream that is over answers the same again, and leaves its reader and the batch as they are.
+pub record StaysOver {R : Type 0} (old new : KeyStream R) (before after : List ℕ) (r : Result ℕ KeyFault) : Type 0 where
+  pub again : r ≡ answer_again (state_of old)
+  pub still_over : state_of new ≡ state_of old
+  pub reads_nothing : reader_of new ≡ reader_of old
+  pub same_batch : after ≡ before
 
 abbrev as_ok : Header → Result Header KeyFault
 as_ok header = Ok header

@@ -4,11 +4,10 @@ ghost use Rattle.std.specs.Prelude.{◌≡◌, ◌≤◌, ◌<◌, ◌+◌, ◌*
 ghost use Rattle.std.specs.Prelude.{All, IfOk, IsErrOf, IsNone, OnOk};
 ghost use Rattle.std.specs.List.{position_from};
 ghost use Rattle.rh_layout.specs.Key.{IsKey};
-ghost use Rattle.rh_bytes.specs.Counting.{Counts, inner_of};
-ghost use Rattle.rh_bytes.specs.Taking.{TakesAtMost};
-ghost use Rattle.rh_key_files.specs.Reading.{CutShort, ReadsKeys, front_of};
-ghost use Rattle.rh_key_files.specs.Reading.{batch_at, keys_at, is_refused};
-ghost use Rattle.rh_key_files.specs.Limits.{NoReadFailed, batch_bytes, keys_taken};
+ghost use Rattle.rh_bytes.specs.Counting.{inner_of};
+ghost use Rattle.rh_key_files.specs.Reading.{CutShort, batch_at, front_of, is_refused};
+ghost use Rattle.rh_key_files.specs.Limits.{batch_bytes, keys_taken};
+ghost use Rattle.rh_key_files.specs.Parts.{ReadsList, ReadsRun};
 ghost use Rattle.rh_bytes.specs.Input.{always, fault_of};
 
 use crate::fault::KeyFault;
@@ -49,18 +48,9 @@ fn read_part<R: Read>(
 ) -> Result<(), KeyFault>
     requires room { length part.old ≡ 8 * length keys.old }
     requires small { index + length keys.old < 2 ^ 64 }
-    ensures known { ReadsKeys (R.remaining (inner_of reader.old))
-        (R.remaining (inner_of reader.new))
-        (keys_at version index (length keys.new)) (always keys.new) result }
-    ensures tested { IsErrOf result KeyFault.Read → CutShort (R.remaining (inner_of reader.old))
-        (R.remaining (inner_of reader.new)) (keys_at version index (length keys.new)) }
+    ensures run { ReadsRun R.remaining reader.old reader.new version index (length keys.new)
+        (always keys.new) (8 * length keys.new) result }
     ensures in_range { OnOk result (All IsKey keys.new) }
-    ensures takes { TakesAtMost (R.remaining (inner_of reader.old))
-        (R.remaining (inner_of reader.new))
-        (8 * length keys.new) }
-    ensures counts { Counts (IsErrOf result KeyFault.Read) (NoReadFailed (fault_of result))
-        reader.old reader.new }
-    ensures no_memory { IsErrOf result KeyFault.Memory → ⊥ }
 {
     let Filled { count, failed } = fill_front(reader, part);
     decode_numbers(part, keys);
@@ -84,18 +74,9 @@ pub(crate) fn read_keys<R: Read>(
     batch: &mut [u64],
 ) -> Result<(), KeyFault>
     requires { index + length batch.old < 2 ^ 64 }
-    ensures known { ReadsKeys (R.remaining (inner_of reader.old))
-        (R.remaining (inner_of reader.new))
-        (keys_at version index (length batch.new)) (always batch.new) result }
-    ensures tested { IsErrOf result KeyFault.Read → CutShort (R.remaining (inner_of reader.old))
-        (R.remaining (inner_of reader.new)) (keys_at version index (length batch.new)) }
+    ensures run { ReadsRun R.remaining reader.old reader.new version index (length batch.new)
+        (always batch.new) (8 * keys_taken index (length batch.new) (fault_of result)) result }
     ensures in_range { OnOk result (All IsKey batch.new) }
-    ensures takes { TakesAtMost (R.remaining (inner_of reader.old))
-        (R.remaining (inner_of reader.new))
-        (8 * keys_taken index (length batch.new) (fault_of result)) }
-    ensures counts { Counts (IsErrOf result KeyFault.Read) (NoReadFailed (fault_of result))
-        reader.old reader.new }
-    ensures no_memory { IsErrOf result KeyFault.Memory → ⊥ }
 {
     let mut part = [0u8; PART_BYTES];
     let mut done = 0;
@@ -118,20 +99,15 @@ pub(crate) fn read_batch<R: Read>(
     batch: &mut [u64],
 ) -> Result<usize, KeyFault>
     requires { index + left < 2 ^ 64 }
-    ensures known { ReadsKeys (R.remaining (inner_of reader.old))
-        (R.remaining (inner_of reader.new))
-        (batch_at version index left (length batch.new)) (front_of batch.new) result }
+    ensures reads { ReadsList R.remaining reader.old reader.new
+        (batch_at version index left (length batch.new)) (front_of batch.new)
+        (batch_bytes index left (length batch.new) (fault_of result)) result }
     ensures tested { IsErrOf result KeyFault.Read → 0 < left →
         CutShort (R.remaining (inner_of reader.old)) (R.remaining (inner_of reader.new))
         (batch_at version index left (length batch.new)) }
     ensures rest { IfOk result (λ n. drop n batch.new ≡ drop n batch.old) }
     ensures many { IfOk result (λ n. n ≡ min (length batch.new) left) }
     ensures in_range { IfOk result (λ n. All IsKey (take n batch.new)) }
-    ensures takes { TakesAtMost (R.remaining (inner_of reader.old))
-        (R.remaining (inner_of reader.new))
-        (batch_bytes index left (length batch.new) (fault_of result)) }
-    ensures counts { Counts (IsErrOf result KeyFault.Read) (NoReadFailed (fault_of result))
-        reader.old reader.new }
     ensures no_memory { IsErrOf result KeyFault.Memory → ⊥ }
 {
     if left == 0 {

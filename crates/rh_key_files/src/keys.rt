@@ -2,12 +2,12 @@
 
 ghost use Rattle.std.specs.Prelude.{◌≡◌, ◌*◌, [], length, All, IfOk, IsErrOf, OnOk};
 ghost use Rattle.rh_layout.specs.Key.{IsKey};
-ghost use Rattle.rh_bytes.specs.Counting.{Counts, Rose, failures_of, inner_of};
-ghost use Rattle.rh_bytes.specs.Taking.{TakesAtMost};
-ghost use Rattle.rh_key_files.specs.Limits.{NoReadFailed, TakesOfFile, keys_taken, most_bytes};
+ghost use Rattle.rh_bytes.specs.Counting.{Counts, inner_of};
+ghost use Rattle.rh_key_files.specs.Limits.{NoReadFailed, TakesOfFile, keys_taken};
+ghost use Rattle.rh_key_files.specs.Parts.{ReadsList, ReadsRun};
 ghost use Rattle.rh_bytes.specs.Input.{always, end_at, fault_of};
-ghost use Rattle.rh_key_files.specs.Reading.{BeginsWithHeader, ReadsKeys, IsReadFrom, file_keys, keys_at};
-ghost use Rattle.rh_key_files.specs.Reading.{CutShort, TakesGoodKeys, header_at};
+ghost use Rattle.rh_key_files.specs.Reading.{BeginsWithHeader, IsReadFrom, ReadsKeys, TakesGoodKeys};
+ghost use Rattle.rh_key_files.specs.Reading.{file_keys, header_at};
 ghost use Rattle.rh_key_files.specs.Stream.{reader_of, lender_of, version_of, count_of, taken_of};
 ghost use Rattle.rh_key_files.specs.Stream.{left_of, state_of};
 
@@ -24,24 +24,12 @@ fn read_all<R: Read>(stream: &mut KeyStream<'_, R>, keys: &mut [u64]) -> Result<
     requires none_taken { taken_of stream.old ≡ 0 }
     requires room { length keys.old ≡ count_of stream.old }
     ensures same_reference { lender_of stream.new ≡ lender_of stream.old }
-    ensures known { ReadsKeys (R.remaining (inner_of (reader_of stream.old)))
-        (R.remaining (inner_of (reader_of stream.new)))
-        (keys_at (version_of stream.old) 0 (length keys.new)) (always keys.new) result }
-    ensures tested { IsErrOf result KeyFault.Read →
-        CutShort (R.remaining (inner_of (reader_of stream.old)))
-        (R.remaining (inner_of (reader_of stream.new)))
-        (keys_at (version_of stream.old) 0 (length keys.new)) }
+    ensures run { ReadsRun R.remaining (reader_of stream.old) (reader_of stream.new)
+        (version_of stream.old) 0 (length keys.new) (always keys.new)
+        (8 * keys_taken 0 (length keys.new) (fault_of result)) result }
     ensures in_range { OnOk result (All IsKey keys.new) }
-    ensures takes { TakesAtMost (R.remaining (inner_of (reader_of stream.old)))
-        (R.remaining (inner_of (reader_of stream.new)))
-        (8 * keys_taken 0 (length keys.new) (fault_of result)) }
     ensures open { OnOk result (state_of stream.new ≡ State.Open) }
     ensures none_left { OnOk result (left_of stream.new ≡ 0) }
-    ensures read { IsErrOf result KeyFault.Read →
-        Rose (failures_of (reader_of stream.old)) (failures_of (reader_of stream.new)) }
-    ensures no_memory { IsErrOf result KeyFault.Memory → ⊥ }
-    ensures fine { NoReadFailed (fault_of result) →
-        failures_of (reader_of stream.new) ≡ failures_of (reader_of stream.old) }
 {
     if !keys.is_empty() {
         stream.next_batch(keys)?;
@@ -54,15 +42,9 @@ fn read_end<R: Read>(stream: &mut KeyStream<'_, R>) -> Result<(), KeyFault>
     requires open { state_of stream.old ≡ State.Open }
     requires none_left { left_of stream.old ≡ 0 }
     ensures same_reference { lender_of stream.new ≡ lender_of stream.old }
-    ensures known { ReadsKeys (R.remaining (inner_of (reader_of stream.old)))
-        (R.remaining (inner_of (reader_of stream.new))) (end_at KeyFault.Long) (always []) result }
-    ensures takes { TakesAtMost (R.remaining (inner_of (reader_of stream.old)))
-        (R.remaining (inner_of (reader_of stream.new))) 1 }
-    ensures read { IsErrOf result KeyFault.Read →
-        Rose (failures_of (reader_of stream.old)) (failures_of (reader_of stream.new)) }
+    ensures reads { ReadsList R.remaining (reader_of stream.old) (reader_of stream.new)
+        (end_at KeyFault.Long) (always []) 1 result }
     ensures no_memory { IsErrOf result KeyFault.Memory → ⊥ }
-    ensures fine { NoReadFailed (fault_of result) →
-        failures_of (reader_of stream.new) ≡ failures_of (reader_of stream.old) }
 {
     // Where no key is left, the next batch tests the end.
     let mut none = [0];
@@ -81,8 +63,6 @@ pub fn read_keys<R: Read>(alloc: Global, reader: &mut Counted<R>) -> Result<Vec<
     ensures in_range { IfOk result (λ v. All IsKey v.items) }
     ensures takes { TakesOfFile (R.remaining (inner_of reader.old))
         (R.remaining (inner_of reader.new)) (fault_of result) }
-    ensures bounded { TakesAtMost (R.remaining (inner_of reader.old))
-        (R.remaining (inner_of reader.new)) most_bytes }
     ensures tested { IsErrOf result KeyFault.Read → TakesGoodKeys header_at
         (R.remaining (inner_of reader.old)) (R.remaining (inner_of reader.new)) }
     ensures counts { Counts (IsErrOf result KeyFault.Read) (NoReadFailed (fault_of result))

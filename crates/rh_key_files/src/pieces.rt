@@ -5,8 +5,8 @@ ghost use Rattle.std.specs.List.{flat_map};
 ghost use Rattle.rh_layout.specs.Key.{IsKey};
 ghost use Rattle.rh_bytes.specs.Counting.{Counts, inner_of};
 ghost use Rattle.rh_bytes.specs.Input.{fault_of};
-ghost use Rattle.rh_bytes.specs.Taking.{TakesAtMost};
 ghost use Rattle.rh_key_files.specs.Limits.{NoReadFailed, TakesBehindMagic, TakesOfLongFile, keys_taken};
+ghost use Rattle.rh_key_files.specs.Parts.{ReadsList};
 ghost use Rattle.rh_key_files.specs.Reading.{BeginsWithLongHeader, BeginsWithNumber, IsLongReadFrom};
 ghost use Rattle.rh_key_files.specs.Reading.{CutShort, ReadsKeys, TakesGoodKeys};
 ghost use Rattle.rh_key_files.specs.Reading.{header_behind, keys_at, keys_behind};
@@ -98,19 +98,14 @@ fn read_piece<R: Read>(
     reader: &mut Counted<R>,
 ) -> Result<Vec<u64>, KeyFault>
     requires { index + left < 2 ^ 64 }
-    ensures known { ReadsKeys (R.remaining (inner_of reader.old))
-        (R.remaining (inner_of reader.new))
-        (keys_at version index (min left PIECE_KEYS)) (λ piece. piece.items) result }
+    ensures reads { ReadsList R.remaining reader.old reader.new
+        (keys_at version index (min left PIECE_KEYS)) (λ piece. piece.items)
+        (8 * keys_taken index (min left PIECE_KEYS) (fault_of result)) result }
     ensures many { IfOk result (λ piece. length piece.items ≡ min left PIECE_KEYS) }
     ensures in_range { IfOk result (λ piece. All IsKey piece.items) }
-    ensures takes { TakesAtMost (R.remaining (inner_of reader.old))
-        (R.remaining (inner_of reader.new))
-        (8 * keys_taken index (min left PIECE_KEYS) (fault_of result)) }
     ensures tested { IsErrOf result KeyFault.Read → CutShort (R.remaining (inner_of reader.old))
         (R.remaining (inner_of reader.new)) (keys_at version index (min left PIECE_KEYS)) }
     ensures memory { IsErrOf result KeyFault.Memory → reader.new ≡ reader.old }
-    ensures counts { Counts (IsErrOf result KeyFault.Read) (NoReadFailed (fault_of result))
-        reader.old reader.new }
 {
     let many = left.min(PIECE_KEYS) as usize;
     let Ok(mut piece) = vec![in alloc; 0u64; many] else {

@@ -38,17 +38,15 @@ pub struct KeyStream<'a, R> {
 }
 
 impl<R: Read> KeyStream<'_, R> {
-    ghost use Rattle.std.specs.Prelude.{◌≡◌, ◌≢◌, ◌⊎◌, ◌<◌, ◌+◌, min, length, IfOk, IsErrOf, Err};
+    ghost use Rattle.std.specs.Prelude.{◌≡◌, ◌≢◌, ◌⊎◌, ◌<◌, length, IfOk, IsErrOf};
     ghost use Rattle.rh_key_files.specs.State.{told_in};
     ghost use Rattle.std.specs.Prelude.{All, take, drop};
     ghost use Rattle.rh_layout.specs.Key.{IsKey};
-    ghost use Rattle.rh_bytes.specs.Counting.{Rose, failures_of, inner_of};
-    ghost use Rattle.rh_bytes.specs.Taking.{TakesAtMost};
-    ghost use Rattle.rh_key_files.specs.Limits.{NoReadFailed, batch_bytes};
+    ghost use Rattle.rh_bytes.specs.Counting.{Rose, failures_of};
+    ghost use Rattle.rh_key_files.specs.Limits.{NoReadFailed};
     ghost use Rattle.rh_bytes.specs.Input.{fault_of};
-    ghost use Rattle.rh_key_files.specs.Reading.{CutShort, ReadsKeys, front_of, batch_at};
-    ghost use Rattle.rh_key_files.specs.Stream.{reader_of, lender_of, header_of, version_of, count_of};
-    ghost use Rattle.rh_key_files.specs.Stream.{taken_of, left_of, state_of, state_after, answer_again};
+    ghost use Rattle.rh_key_files.specs.Stream.{GivesBatch, StaysOver};
+    ghost use Rattle.rh_key_files.specs.Stream.{reader_of, lender_of, header_of, count_of, state_of};
 
     /// The reader that it took on loan. It has failed where the stream told so.
     pub fn reader(&self) -> &Counted<R>
@@ -75,39 +73,10 @@ impl<R: Read> KeyStream<'_, R> {
         ensures same_reference { lender_of self.new ≡ lender_of self.old }
         ensures same_header { header_of self.new ≡ header_of self.old }
 
-        // While the stream is open.
-        ensures known { state_of self.old ≡ State.Open →
-            ReadsKeys (R.remaining (inner_of (reader_of self.old)))
-            (R.remaining (inner_of (reader_of self.new)))
-            (batch_at (version_of self.old) (taken_of self.old) (left_of self.old)
-            (length batch.new))
-            (front_of batch.new) result }
-        ensures tested { state_of self.old ≡ State.Open → IsErrOf result KeyFault.Read →
-            0 < left_of self.old →
-            CutShort (R.remaining (inner_of (reader_of self.old)))
-            (R.remaining (inner_of (reader_of self.new)))
-            (batch_at (version_of self.old) (taken_of self.old) (left_of self.old)
-            (length batch.new)) }
-        ensures takes { state_of self.old ≡ State.Open →
-            TakesAtMost (R.remaining (inner_of (reader_of self.old)))
-            (R.remaining (inner_of (reader_of self.new)))
-            (batch_bytes (taken_of self.old) (left_of self.old) (length batch.new)
-            (fault_of result)) }
-        ensures many { state_of self.old ≡ State.Open →
-            IfOk result (λ n. n ≡ min (length batch.new) (left_of self.old)) }
-        ensures taken { state_of self.old ≡ State.Open →
-            IfOk result (λ n. taken_of self.new ≡ taken_of self.old + n) }
-        ensures goes_on { state_of self.old ≡ State.Open →
-            state_of self.new ≡ state_after (left_of self.old) result }
-
-        // Once it is over.
-        ensures again { state_of self.old ≢ State.Open → result ≡ answer_again (state_of self.old) }
-        ensures still_over { state_of self.old ≢ State.Open →
-            state_of self.new ≡ state_of self.old }
-        ensures reads_nothing { state_of self.old ≢ State.Open →
-            reader_of self.new ≡ reader_of self.old }
-        ensures same_batch { state_of self.old ≢ State.Open → batch.new ≡ batch.old }
-
+        ensures open { state_of self.old ≡ State.Open →
+            GivesBatch R.remaining self.old self.new batch.new result }
+        ensures over { state_of self.old ≢ State.Open →
+            StaysOver self.old self.new batch.old batch.new result }
         ensures in_range { IfOk result (λ n. All IsKey (take n batch.new)) }
         ensures rest { IfOk result (λ n. drop n batch.new ≡ drop n batch.old) }
         ensures read { IsErrOf result KeyFault.Read →

@@ -14,18 +14,22 @@ pub loop-done-init : goal.loop-done-init
 loop-done-init g c =
     record { within = omega arith; read = no_keys _ _ _; in_range = λ k d less. absurd (omega arith); takes = takes_nothing _ _; fine = refl }
 
-pub returns-in_err-read_part-clause-known : goal.returns-in_err-read_part-clause-known
-returns-in_err-read_part-clause-known g c =
+pub returns-in_err-read_part-clause-run : goal.returns-in_err-read_part-clause-run
+returns-in_err-read_part-clause-run g c =
     let p = err_from_is_err_and c.from_residual.result c.from_residual.ensures.1 in
     let done = c.loop-done.done in
-    rw (p.1, p.2) (part_stops c.args.version c.args.index done (c.args.index + done) (length c.read_part.new.keys) _ _ _ _ (take done c.loop-done.batch) _ _ _ refl (part_inside done _ c.loop-done.batch c.read_part.new.keys c.loop-done.invariant.within) c.loop-done.invariant.read c.in_err-read_part.ensures.known)
-
-pub returns-in_err-read_part-clause-takes : goal.returns-in_err-read_part-clause-takes
-returns-in_err-read_part-clause-takes g c =
-    let p = err_from_is_err_and c.from_residual.result c.from_residual.ensures.1 in
-    let done = c.loop-done.done in
+    let part = c.in_err-read_part.ensures.run in
     let len : length c.read_part.new.keys ≡ c.min-many.result = search rules in
-    rw (p.1, p.2) (keys_stop _ c.args.version c.args.index done (c.args.index + done) (length c.read_part.new.keys) _ _ _ _ _ refl (omega (arith, len, c.min-many.ensures)) (part_inside done _ c.loop-done.batch c.read_part.new.keys c.loop-done.invariant.within) c.loop-done.invariant.takes c.in_err-read_part.ensures.takes c.in_err-read_part.ensures.known)
+    let within = part_inside done _ c.loop-done.batch c.read_part.new.keys c.loop-done.invariant.within in
+    rw (p.1, p.2) (record {
+      reads = record {
+        known = part_stops c.args.version c.args.index done (c.args.index + done) (length c.read_part.new.keys) _ _ _ _ (take done c.loop-done.batch) _ _ _ refl within c.loop-done.invariant.read part.reads.known;
+        takes = keys_stop _ c.args.version c.args.index done (c.args.index + done) (length c.read_part.new.keys) _ _ _ _ _ refl (omega (arith, len, c.min-many.ensures)) within c.loop-done.invariant.takes part.reads.takes part.reads.known;
+        counts = search rules;
+      };
+      tested = λ failed. cut_later c.args.version c.args.index done (c.args.index + done) (length c.read_part.new.keys) _ _ _ _ (take done c.loop-done.batch) refl within c.loop-done.invariant.read (part.tested (search failed));
+      no_memory = search rules;
+    })
 
 pub loop-done-preserved : goal.loop-done-preserved
 loop-done-preserved g c =
@@ -38,14 +42,8 @@ loop-done-preserved g c =
     let both : take now (put_mid done (now - done) batch keys) ≡ take done batch ++ keys = take-put_mid done (now - done) batch keys now later c.loop-done.invariant.within in
     record {
       within = omega (arith, len, part_inside done (now - done) batch keys c.loop-done.invariant.within);
-      read = part_goes_on c.args.version c.args.index done (c.args.index + done) (length keys) now _ _ _ (take done batch) keys _ refl later both c.loop-done.invariant.read c.in_ok-read_part.ensures.known;
+      read = part_goes_on c.args.version c.args.index done (c.args.index + done) (length keys) now _ _ _ (take done batch) keys _ refl later both c.loop-done.invariant.read c.in_ok-read_part.ensures.run.reads.known;
       in_range = rw both (All-append IsKey (take done batch) keys c.loop-done.invariant.in_range c.in_ok-read_part.ensures.in_range);
-      takes = takes_both _ _ _ (8 * done) (8 * length keys) _ c.loop-done.invariant.takes c.in_ok-read_part.ensures.takes (omega (arith, later));
+      takes = takes_both _ _ _ (8 * done) (8 * length keys) _ c.loop-done.invariant.takes c.in_ok-read_part.ensures.run.reads.takes (omega (arith, later));
       fine = search rules;
     }
-
-pub returns-in_err-read_part-clause-tested : goal.returns-in_err-read_part-clause-tested
-returns-in_err-read_part-clause-tested g c =
-    let p = err_from_is_err_and c.from_residual.result c.from_residual.ensures.1 in
-    let done = c.loop-done.done in
-    rw (p.1, p.2) (λ failed. cut_later c.args.version c.args.index done (c.args.index + done) (length c.read_part.new.keys) _ _ _ _ (take done c.loop-done.batch) refl (part_inside done _ c.loop-done.batch c.read_part.new.keys c.loop-done.invariant.within) c.loop-done.invariant.read (c.in_err-read_part.ensures.tested failed))

@@ -28,7 +28,7 @@ returns-in_err-piece-clause-known g c =
     let count = c.in_ok-count.count in
     let many = min (count - taken) 65536 in
     rw (p.1, p.2) (keys_fail _ c.args.version count _ _ _ _ (λ u. []) _ c.in_ok-count.ensures.known
-    (part_stops c.args.version 0 taken taken many count _ _ _ _ (λ u. []) _ _ (omega arith) (omega arith) c.loop-taken.invariant.read (as_batch_fails c.args.version taken many _ _ _ _ _ c.in_err-piece.ensures.known)))
+    (part_stops c.args.version 0 taken taken many count _ _ _ _ (λ u. []) _ _ (omega arith) (omega arith) c.loop-taken.invariant.read (as_batch_fails c.args.version taken many _ _ _ _ _ c.in_err-piece.ensures.reads.known)))
 
 pub loop-taken-preserved : goal.loop-taken-preserved
 loop-taken-preserved g c =
@@ -38,9 +38,9 @@ loop-taken-preserved g c =
     let len : c.len.result ≡ many = search rules in
     record {
       within = omega (arith, len);
-      read = part_goes_on c.args.version 0 taken taken many _ _ _ _ _ piece.items _ (omega arith) (omega (arith, len)) (rw c.in-Ok.ensures.items (rw flat_map-append (rw append-nil refl))) c.loop-taken.invariant.read (as_batch c.args.version taken many _ _ (λ p. p.items) piece c.in_ok-piece.ensures.known);
+      read = part_goes_on c.args.version 0 taken taken many _ _ _ _ _ piece.items _ (omega arith) (omega (arith, len)) (rw c.in-Ok.ensures.items (rw flat_map-append (rw append-nil refl))) c.loop-taken.invariant.read (as_batch c.args.version taken many _ _ (λ p. p.items) piece c.in_ok-piece.ensures.reads.known);
       in_range = search rules;
-      takes = takes_both _ _ _ (8 * taken) (8 * many) _ c.loop-taken.invariant.takes c.in_ok-piece.ensures.takes (omega (arith, len));
+      takes = takes_both _ _ _ (8 * taken) (8 * many) _ c.loop-taken.invariant.takes c.in_ok-piece.ensures.reads.takes (omega (arith, len));
       fine = search rules;
     }
 
@@ -69,7 +69,7 @@ returns-in_err-piece-clause-takes g c =
     let count = c.in_ok-count.count in
     let many = min (count - taken) 65536 in
     let number : NumberRead _ _ count = record { read = c.in_ok-count.ensures.known; taken = c.in_ok-count.ensures.takes } in
-    rw (p.1, p.2) (piece_stops _ _ _ _ c.args.version count taken many _ _ number (omega arith) c.loop-taken.invariant.takes c.in_err-piece.ensures.takes c.in_err-piece.ensures.known)
+    rw (p.1, p.2) (piece_stops _ _ _ _ c.args.version count taken many _ _ number (omega arith) c.loop-taken.invariant.takes c.in_err-piece.ensures.reads.takes c.in_err-piece.ensures.reads.known)
 
 pub returns-in_err-read_end-clause-takes : goal.returns-in_err-read_end-clause-takes
 returns-in_err-read_end-clause-takes g c =
@@ -92,7 +92,7 @@ returns-in_default-clause-takes g c =
     let count = c.in_ok-count.count in
     let many = min (count - taken) 65536 in
     let number : NumberRead _ _ count = record { read = c.in_ok-count.ensures.known; taken = c.in_ok-count.ensures.takes } in
-    memory_stops _ _ _ count (taken + many) number (omega arith) (takes_both _ _ _ (8 * taken) (8 * many) (8 * (taken + many)) c.loop-taken.invariant.takes c.in_ok-piece.ensures.takes (omega arith))
+    memory_stops _ _ _ count (taken + many) number (omega arith) (takes_both _ _ _ (8 * taken) (8 * many) (8 * (taken + many)) c.loop-taken.invariant.takes c.in_ok-piece.ensures.reads.takes (omega arith))
 
 -- ---- a failed read, or want of memory, behind good keys
 
@@ -122,7 +122,7 @@ returns-in_default-clause-tested_too g c =
     let piece = c.in_ok-piece.piece in
     let many = min (count - taken) 65536 in
     λ _. good_front (header_behind c.args.version) _ _ _ (record { version = c.args.version; count = count }) (taken + many) _ (header_of c.args.version _ _ count c.in_ok-count.ensures.known) (omega arith)
-    (part_goes_on c.args.version 0 taken taken many (taken + many) _ _ _ _ piece.items _ (omega arith) refl refl c.loop-taken.invariant.read (as_batch c.args.version taken many _ _ (λ p. p.items) piece c.in_ok-piece.ensures.known))
+    (part_goes_on c.args.version 0 taken taken many (taken + many) _ _ _ _ piece.items _ (omega arith) refl refl c.loop-taken.invariant.read (as_batch c.args.version taken many _ _ (λ p. p.items) piece c.in_ok-piece.ensures.reads.known))
 
 pub returns-in_err-read_end-clause-tested : goal.returns-in_err-read_end-clause-tested
 returns-in_err-read_end-clause-tested g c =

@@ -1,0 +1,29 @@
+-- What a call that reads a part of a key file tells, and what it leaves of its reader.
+use Rattle.std.specs.Prelude.{◌≢◌, ℕ, List, Option, Result, Err, IsErrOf}
+use Rattle.rh_bytes.specs.declared.counted.Counted.{Counted}
+use Rattle.rh_bytes.specs.Counting.{Counts, inner_of}
+use Rattle.rh_bytes.specs.Input.{fault_of}
+use Rattle.rh_bytes.specs.Parts.{ReadsPart}
+use Rattle.rh_bytes.specs.Taking.{TakesAtMost}
+use Rattle.rh_key_files.specs.declared.fault.KeyFault.{KeyFault}
+use Rattle.rh_key_files.specs.declared.fault.KeyFault.TheVariants.{Memory, Read}
+use Rattle.rh_key_files.specs.declared.version.Version.{Version}
+use Rattle.rh_key_files.specs.Limits.{NoReadFailed}
+use Rattle.rh_key_files.specs.Reading.{CutShort, ReadsKeys, is_silent, keys_at}
+
+-- a part of the header
+abbrev pub ReadsHead : {R X Y : Type 0} → (R → Option (List ℕ)) → (old new : Counted R) → (List ℕ → Result (Y × List ℕ) KeyFault) → (X → Y) → (most : ℕ) → Result X KeyFault → Type 0
+ReadsHead bytes_of old new reading view most r = ReadsPart bytes_of is_silent Read Memory old new reading view most r
+
+-- Keys, as a part is read. But before a failed read a key out of range is told that was read whole, so that with it the count may
+-- have risen too.
+pub record ReadsList {R X Y : Type 0} (bytes_of : R → Option (List ℕ)) (old new : Counted R) (reading : List ℕ → Result (Y × List ℕ) KeyFault) (view : X → Y) (most : ℕ) (r : Result X KeyFault) : Type 0 where
+  pub known : ReadsKeys (bytes_of (inner_of old)) (bytes_of (inner_of new)) reading view r
+  pub takes : TakesAtMost (bytes_of (inner_of old)) (bytes_of (inner_of new)) most
+  pub counts : Counts (IsErrOf r Read) (NoReadFailed (fault_of r)) old new
+
+-- n keys, of which the first has this index: where a failed read is told, those before it were tested. Want of memory is not told.
+pub record ReadsRun {R X : Type 0} (bytes_of : R → Option (List ℕ)) (old new : Counted R) (version : Version) (index n : ℕ) (view : X → List ℕ) (most : ℕ) (r : Result X KeyFault) : Type 0 where
+  pub reads : ReadsList bytes_of old new (keys_at version index n) view most r
+  pub tested : IsErrOf r Read → CutShort (bytes_of (inner_of old)) (bytes_of (inner_of new)) (keys_at version index n)
+  pub no_memory : r ≢ Err Memory
