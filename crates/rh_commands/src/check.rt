@@ -4,8 +4,7 @@ ghost use Rattle.std.specs.Prelude.{◌≡◌, IsErrOf};
 ghost use Rattle.hex.specs.Hex.{encode_lower};
 ghost use Rattle.rh_bytes.specs.Counting.{CountsFault, Emits, WritesLast, inner_of};
 ghost use Rattle.rh_snapshot.specs.Reading.{BeginsWithSnapHeader, table_as};
-ghost use Rattle.rh_bytes.specs.Taking.{TakesAtMost};
-ghost use Rattle.rh_snapshot.specs.Limits.{TakesOfSnap, most_snap_bytes};
+ghost use Rattle.rh_snapshot.specs.Limits.{TakesOfSnap};
 ghost use Rattle.rh_commands.specs.Check.{Checks, check_text, snap_fault_in};
 
 use itoa::Buffer;
@@ -61,8 +60,6 @@ pub fn check_snapshot<R: Read, W: Write>(
         (W.contents (inner_of writer.old)) (W.contents (inner_of writer.new)) result }
     ensures takes { TakesOfSnap (R.remaining (inner_of reader.old))
         (R.remaining (inner_of reader.new)) (snap_fault_in result) }
-    ensures bounded { TakesAtMost (R.remaining (inner_of reader.old))
-        (R.remaining (inner_of reader.new)) most_snap_bytes }
     ensures counts { CountsFault (CheckFault.Snap SnapFault.Read) reader.old reader.new result }
     ensures memory { IsErrOf result (CheckFault.Snap SnapFault.Memory) →
         BeginsWithSnapHeader (R.remaining (inner_of reader.old)) }

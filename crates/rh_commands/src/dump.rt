@@ -2,8 +2,7 @@
 
 ghost use Rattle.std.specs.Prelude.{◌≡◌, IsErrOf};
 ghost use Rattle.rh_bytes.specs.Counting.{Counts, WritesLast, inner_of};
-ghost use Rattle.rh_bytes.specs.Taking.{TakesAtMost};
-ghost use Rattle.rh_key_files.specs.Limits.{NoReadFailed, TakesOfFile, most_bytes};
+ghost use Rattle.rh_key_files.specs.Limits.{NoReadFailed, TakesOfFile};
 ghost use Rattle.rh_commands.specs.Dump.{Dumps, dump_fault_in};
 
 use rh_bytes::{Counted, WriteFault};
@@ -80,8 +79,6 @@ pub fn dump_keys<R: Read, W: Write>(
         (W.contents (inner_of writer.old)) (W.contents (inner_of writer.new)) result }
     ensures takes { TakesOfFile (R.remaining (inner_of reader.old))
         (R.remaining (inner_of reader.new)) (dump_fault_in result) }
-    ensures bounded { TakesAtMost (R.remaining (inner_of reader.old))
-        (R.remaining (inner_of reader.new)) most_bytes }
     ensures counts { Counts (IsErrOf result (DumpFault.Keys KeyFault.Read))
         (NoReadFailed (dump_fault_in result)) reader.old reader.new }
     ensures writes { WritesLast DumpFault.Write writer.old writer.new result }

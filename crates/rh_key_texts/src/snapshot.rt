@@ -3,8 +3,7 @@
 ghost use Rattle.std.specs.Prelude.{◌≡◌, IsErrOf};
 ghost use Rattle.rh_bytes.specs.Counting.{CountsFault, WritesLast, inner_of};
 ghost use Rattle.rh_snapshot.specs.Reading.{BeginsWithSnapHeader};
-ghost use Rattle.rh_bytes.specs.Taking.{TakesAtMost};
-ghost use Rattle.rh_snapshot.specs.Limits.{TakesOfSnap, most_snap_bytes};
+ghost use Rattle.rh_snapshot.specs.Limits.{TakesOfSnap};
 ghost use Rattle.rh_key_texts.specs.List.{ComesFirstOrLast, ListsHeld, fault_held};
 
 use rh_bytes::{Counted, WriteFault};
@@ -75,8 +74,6 @@ pub fn list_snapshot<R: Read, W: Write>(
         (W.contents (inner_of writer.old)) (W.contents (inner_of writer.new)) result }
     ensures takes { TakesOfSnap (R.remaining (inner_of reader.old))
         (R.remaining (inner_of reader.new)) (fault_held result) }
-    ensures bounded { TakesAtMost (R.remaining (inner_of reader.old))
-        (R.remaining (inner_of reader.new)) most_snap_bytes }
     ensures counts { CountsFault (HeldFault.Snap SnapFault.Read) reader.old reader.new result }
     ensures memory { IsErrOf result (HeldFault.Snap SnapFault.Memory) →
         BeginsWithSnapHeader (R.remaining (inner_of reader.old)) }
