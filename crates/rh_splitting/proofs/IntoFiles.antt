@@ -4,6 +4,7 @@ use Rattle.std.specs.Prelude.{All, IfErr}
 use Rattle.std.specs.Io.KnownBytes.{Consumes, Keeps}
 use Rattle.std.proofs.KnownBytes.{Consumes-kept, Consumes-nil}
 use Rattle.std.proofs.lemmas.Option.{get_or_from_slice_get, slice_get_within}
+use Rattle.rh_bytes.specs.Taking.{TakesAtMost}
 use Rattle.rh_key_files.specs.Limits.{header_bytes}
 use Rattle.rh_key_files.specs.Reading.{IsReadFrom, TakesGoodKeys, header_at}
 use Rattle.rh_key_files.proofs.Tested.{good_in_header, header_long}
@@ -40,7 +41,9 @@ nothing_said = (1, Start, λ rest. refl)
 
 pub takes_none : {X : Type 0} (source : Source) (a b : Option (List ℕ)) (r : Result X SplitFault) → Keeps a b → TakesOfSource source a b r
 takes_none sources.Text a b r kept = record { before = []; last = []; taken = none_taken a b kept; short = omega arith; keys = []; no_fault = nothing_said }
-takes_none sources.Keys a b r kept = record { taken = []; consumed = none_taken a b kept; few = omega arith }
+takes_none sources.Keys a b r kept =
+    let none : (n : ℕ) → TakesAtMost a b n = λ n. record { taken = []; consumed = none_taken a b kept; few = omega arith } in
+    record { taken = none _; bounded = none _ }
 
 pub takes_later : {X : Type 0} (source : Source) (a b c : Option (List ℕ)) (r : Result X SplitFault) → Keeps a b → TakesOfSource source b c r → TakesOfSource source a c r
 takes_later source a b c r kept takes = moved (λ x. TakesOfSource source x c r) a b (λ _. takes_none source None c r tt) kept takes
