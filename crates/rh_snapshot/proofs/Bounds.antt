@@ -82,34 +82,21 @@ IsLong Long = Unit {0}
 IsLong e = ⊥
 
 numbers_fit : (n : ℕ) (e : SnapFault) (r : Result (List ℕ × List ℕ) SnapFault) → IfErr r IsLater → SnapFails e r → snap_header_bytes + numbers_taken n (Some e) ≤ snap_bytes n (Some e)
-numbers_fit n faults.Read r later fails = omega arith
-numbers_fit n faults.Memory r later fails = omega arith
 numbers_fit n NotSnapshot r later fails = absurd (subst (λ r. IfErr r IsLater) fails later)
-numbers_fit n Short r later fails = omega arith
 numbers_fit n BadBits r later fails = absurd (subst (λ r. IfErr r IsLater) fails later)
-numbers_fit n Damaged r later fails = omega arith
-numbers_fit n NotALayout r later fails = omega arith
-numbers_fit n Long r later fails = omega arith
+numbers_fit n e r later fails = omega arith
 
 seal_fits : (X : Type 0) (n : ℕ) (e : SnapFault) (r : Result (List ℕ × List ℕ) SnapFault) → (IsErrOf {T = X} (Err e) faults.Memory → ⊥) → IfErr r IsLater → SnapFails e r → sealed_bytes n ≤ snap_bytes n (Some e)
-seal_fits X n faults.Read r other later fails = omega arith
 seal_fits X n faults.Memory r other later fails = absurd (other refl)
 seal_fits X n NotSnapshot r other later fails = absurd (subst (λ r. IfErr r IsLater) fails later)
-seal_fits X n Short r other later fails = omega arith
 seal_fits X n BadBits r other later fails = absurd (subst (λ r. IfErr r IsLater) fails later)
-seal_fits X n Damaged r other later fails = omega arith
-seal_fits X n NotALayout r other later fails = omega arith
-seal_fits X n Long r other later fails = omega arith
+seal_fits X n e r other later fails = omega arith
 
 end_fits : (X : Type 0) (n : ℕ) (e : SnapFault) (r : Result (List ℕ × List ℕ) SnapFault) → (IsErrOf {T = X} (Err e) faults.Memory → ⊥) → IfErr r IsLong → SnapFails e r → whole_snap_bytes n ≤ snap_bytes n (Some e)
-end_fits X n faults.Read r other ends fails = omega arith
 end_fits X n faults.Memory r other ends fails = absurd (other refl)
-end_fits X n NotSnapshot r other ends fails = absurd (subst (λ r. IfErr r IsLong) fails ends)
-end_fits X n Short r other ends fails = omega arith
-end_fits X n BadBits r other ends fails = absurd (subst (λ r. IfErr r IsLong) fails ends)
-end_fits X n Damaged r other ends fails = absurd (subst (λ r. IfErr r IsLong) fails ends)
-end_fits X n NotALayout r other ends fails = absurd (subst (λ r. IfErr r IsLong) fails ends)
+end_fits X n faults.Read r other ends fails = omega arith
 end_fits X n Long r other ends fails = omega arith
+end_fits X n e r other ends fails = absurd (subst (λ r. IfErr r IsLong) fails ends)
 
 -- ---- any file
 
@@ -127,14 +114,8 @@ cells_few (Some bytes) = few_cells (snap_header_at bytes) bytes refl
 
 file_fits : (cells : ℕ) (fault : Option SnapFault) → cells ≤ 2 ^ MAX_BITS → snap_bytes cells fault ≤ most_snap_bytes
 file_fits cells None few = omega (arith, few)
-file_fits cells (Some faults.Read) few = omega (arith, few)
-file_fits cells (Some faults.Memory) few = omega (arith, few)
 file_fits cells (Some NotSnapshot) few = omega (arith, few)
-file_fits cells (Some Short) few = omega (arith, few)
-file_fits cells (Some BadBits) few = omega (arith, few)
-file_fits cells (Some Damaged) few = omega (arith, few)
-file_fits cells (Some NotALayout) few = omega (arith, few)
-file_fits cells (Some Long) few = omega (arith, few)
+file_fits cells (Some e) few = omega (arith, few)
 
 of_file : (a b : Option (List ℕ)) (fault : Option SnapFault) → TakesAtMost a b (snap_bytes (cells_said a) fault) → TakesOfSnap a b fault
 of_file a b fault t = record { taken = t; bounded = takes_fewer a b (snap_bytes (cells_said a) fault) most_snap_bytes t (file_fits (cells_said a) fault (cells_few a)) }

@@ -29,7 +29,7 @@ loop-slot-preserved g c =
     let before = take i c.loop-slot.numbers in
     let eight = c.read_bytes.new.buf in
     let n : ℕ = c.number_of.result in
-    let number = number_is Short eight (search rules) c.in_ok-read_bytes.ensures (search rules) in
+    let number = number_is Short eight (search rules) {n = n} c.in_ok-read_bytes.ensures c.number_of.ensures.value in
     let next = take_more_set c.loop-slot.numbers i n (search rules) in
     record {
       read = reads_on _ _ _ i n before _ next c.loop-slot.invariant.read number.known;

@@ -1,7 +1,7 @@
-use Rattle.std.proofs.Common.{◌≡◌, true, false, refl, rules, get_or}
+use Rattle.std.proofs.Common.{rules}
 use Rattle.std.proofs.lemmas.Result.{err_from_is_err_and}
 use Rattle.rh_bytes.proofs.Parts.{part_fails, part_is, part_is_not, part_of}
-use Rattle.rh_snapshot.specs.Reading.{are_bits, bits_at, bits_in}
+use Rattle.rh_snapshot.specs.Reading.{bits_at, bits_in}
 use Rattle.rh_snapshot.proofs.parts.read_bits.Goals as goal
 
 pub returns-in_err-read_bytes-clause-reads : goal.returns-in_err-read_bytes-clause-reads
@@ -14,11 +14,8 @@ returns-in_err-read_bytes-clause-reads g c =
 pub returns-then-not-allows-clause-reads : goal.returns-then-not-allows-clause-reads
 unfolding bits_at
 returns-then-not-allows-clause-reads g c =
-    let bad : are_bits c.args.version (get_or c.read_bytes.new.buf 0 0) ≡ false = search rules in
-    part_is_not (bits_in c.args.version) (part_of _ _ 1 c.in_ok-read_bytes.ensures (search rules)) (λ bytes. rw bad refl) (λ is. cc) (λ is. cc)
+    part_is_not (bits_in c.args.version) (part_of _ _ 1 c.in_ok-read_bytes.ensures (search rules)) (λ bytes. search rules) (λ is. cc) (λ is. cc)
 
 pub returns-clause-reads : goal.returns-clause-reads
 unfolding bits_at
-returns-clause-reads g c =
-    let fits : are_bits c.args.version (get_or c.read_bytes.new.buf 0 0) ≡ true = search rules in
-    part_is (bits_in c.args.version) (part_of _ _ 1 c.in_ok-read_bytes.ensures (search rules)) (λ bytes. rw fits (search rules))
+returns-clause-reads g c = part_is (bits_in c.args.version) (part_of _ _ 1 c.in_ok-read_bytes.ensures (search rules)) (λ bytes. search rules)
