@@ -103,13 +103,8 @@ count_few (Some bytes) = few_said (header_at bytes) bytes refl
 
 file_fits : (count : ℕ) (fault : Option KeyFault) → count ≤ MAX_KEYS → file_bytes count fault ≤ most_bytes
 file_fits count None few = omega (arith, few)
-file_fits count (Some faults.Read) few = omega (arith, few)
-file_fits count (Some faults.Memory) few = omega (arith, few)
 file_fits count (Some NotKeys) few = omega (arith, few)
-file_fits count (Some Short) few = omega (arith, few)
-file_fits count (Some TooMany) few = omega (arith, few)
-file_fits count (Some (BadKey index)) few = omega (arith, few)
-file_fits count (Some Long) few = omega (arith, few)
+file_fits count (Some e) few = omega (arith, few)
 
 of_file : (a b : Option (List ℕ)) (fault : Option KeyFault) → TakesAtMost a b (file_bytes (count_said a) fault) → TakesOfFile a b fault
 of_file a b fault t = record { taken = t; bounded = takes_fewer a b (file_bytes (count_said a) fault) most_bytes t (file_fits (count_said a) fault (count_few a)) }
@@ -125,22 +120,17 @@ IsLong Long = Unit {0}
 IsLong e = ⊥
 
 keys_fit : (X : Type 0) (count : ℕ) (e : KeyFault) (r : Result (List ℕ × List ℕ) KeyFault) → (IsErrOf {T = X} (Err e) faults.Memory → ⊥) → ComesFrom 0 r → KeysFail e r → header_bytes + 8 * keys_taken 0 count (Some e) ≤ file_bytes count (Some e)
-keys_fit X count faults.Read r other comes fails = omega arith
 keys_fit X count faults.Memory r other comes fails = absurd (other refl)
 keys_fit X count NotKeys r other comes fails = absurd (subst (ComesFrom 0) fails comes)
-keys_fit X count Short r other comes fails = omega arith
 keys_fit X count TooMany r other comes fails = absurd (subst (ComesFrom 0) fails comes)
-keys_fit X count (BadKey index) r other comes fails = omega arith
-keys_fit X count Long r other comes fails = omega arith
+keys_fit X count e r other comes fails = omega arith
 
 end_fits : (X : Type 0) (count : ℕ) (e : KeyFault) (r : Result (List ℕ × List ℕ) KeyFault) → (IsErrOf {T = X} (Err e) faults.Memory → ⊥) → IfErr r IsLong → KeysFail e r → whole_bytes count ≤ file_bytes count (Some e)
-end_fits X count faults.Read r other ends fails = omega arith
 end_fits X count faults.Memory r other ends fails = absurd (other refl)
 end_fits X count NotKeys r other ends fails = absurd (subst (λ r. IfErr r IsLong) fails ends)
-end_fits X count Short r other ends fails = omega arith
 end_fits X count TooMany r other ends fails = absurd (subst (λ r. IfErr r IsLong) fails ends)
 end_fits X count (BadKey index) r other ends fails = absurd (subst (λ r. IfErr r IsLong) fails ends)
-end_fits X count Long r other ends fails = omega arith
+end_fits X count e r other ends fails = omega arith
 
 -- the header that was read, of a file of so many keys
 pub record HeaderRead (a b : Option (List ℕ)) (version : Version) (count : ℕ) : Type 0 where

@@ -4,8 +4,7 @@ use Rattle.std.specs.Prelude.{option_map}
 use Rattle.std.proofs.lemmas.Bool.{ne_eqb}
 use Rattle.rh_key_files.specs.declared.version.Version.{Version}
 use Rattle.rh_key_files.specs.declared.fault.KeyFault.{KeyFault}
-use Rattle.rh_key_files.specs.declared.fault.KeyFault.TheVariants as faults
-use Rattle.rh_key_files.specs.declared.fault.KeyFault.TheVariants.{NotKeys, Short, TooMany, BadKey, Long}
+use Rattle.rh_key_files.specs.declared.fault.KeyFault.TheVariants.{Long}
 use Rattle.rh_key_files.specs.declared.stream.State.{State}
 use Rattle.rh_key_files.specs.declared.stream.State.TheVariants.{Open, Ended, Failed}
 use Rattle.rh_key_files.specs.declared.header.Header.{Header}
@@ -13,7 +12,7 @@ use Rattle.rh_bytes.specs.Input.{◌>>=◌, end_at}
 use Rattle.rh_key_files.specs.Reading.{KeysFail, ReadsKeys, count_in_header, front_of, header_at, keys_at, batch_at, after_header, keys_ended, file_keys, is_silent}
 use Rattle.rh_key_files.specs.Source.{Gives, ComesFrom, FaultComes, HasCount, keys_in, keys_of_file, keys_then}
 use Rattle.rh_key_files.specs.Stream.{answer_again, coming_in, keys_to_end, state_after}
-use Rattle.rh_bytes.proofs.Reading.{Fails-then, with_front}
+use Rattle.rh_bytes.proofs.Reading.{Fails-so, Fails-then, with_front}
 use Rattle.rh_key_files.proofs.Next.{none_left, some_left}
 use Rattle.rh_key_files.proofs.Batches.{keys_at-add, and_next}
 use Rattle.rh_bytes.proofs.Parsed.{then_ok, same_value}
@@ -25,22 +24,10 @@ Read = Result (List ℕ × List ℕ) KeyFault
 -- ---- faults
 
 fails_itself : (e : KeyFault) → KeysFail {X = List ℕ} e (Err e)
-fails_itself faults.Read = tt
-fails_itself faults.Memory = tt
-fails_itself NotKeys = refl
-fails_itself Short = refl
-fails_itself TooMany = refl
-fails_itself (BadKey index) = refl
-fails_itself Long = refl
+fails_itself e = Fails-so is_silent e (Err e) refl
 
 keys_fail : (e : KeyFault) (r : Read) → KeysFail e r → KeysFail e (keys_in r)
-keys_fail faults.Read r h = tt
-keys_fail faults.Memory r h = tt
-keys_fail NotKeys r h = rw h refl
-keys_fail Short r h = rw h refl
-keys_fail TooMany r h = rw h refl
-keys_fail (BadKey index) r h = rw h refl
-keys_fail Long r h = rw h refl
+keys_fail e r h = Fails-then is_silent e r (λ keys. Ok keys.0) h
 
 -- ---- the keys of a batch, and then the others
 

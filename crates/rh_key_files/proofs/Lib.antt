@@ -1,6 +1,6 @@
 -- A key file is read by the steps of rh_bytes. They are joined to batches, and the batches to a whole file.
 -- Decoded: numbers that are made of the bytes that spell them.
--- Steps: the steps of the header.
+-- Steps: the version that four bytes name.
 -- Filled: a part of a key file: the keys that its bytes spell, and their test.
 -- Interrupted: keys of which a failed read cut the rest off.
 -- Batches: keys one after the other, and batches of keys one after the other.
@@ -8,8 +8,8 @@
 -- Blame: the reader of a stream that told a failed read.
 -- Coming: what is still to come of a stream of keys.
 -- Tested: keys that were taken behind a header, where a failed read or want of memory is told.
--- Whole: a whole key file, read by its header, its keys and its end.
--- BehindMagic: a key file of any number of keys, read behind its magic in pieces.
+-- Whole: a whole key file, read by its header or by the number behind its magic, its keys and its end.
+-- BehindMagic: the keys of a piece, seen as those of a batch.
 -- Bounds: which faults come where, and how many bytes are taken before they are told.
 -- PieceBounds: how many bytes are taken of a key file of any number of keys, behind its magic.
 -- LongFile: a key file of any number of keys: its magic, and then what stands behind it.

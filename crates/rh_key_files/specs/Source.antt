@@ -1,5 +1,6 @@
 -- Keys that come in batches: what is still to come of them.
 use Rattle.std.specs.Prelude.{◌≡◌, ℕ, zero, suc, List, [], ◌++◌, length, take, Option, Some, None, Result, Ok, Err}
+use Rattle.rh_bytes.specs.Input.{◌>>=◌}
 use Rattle.rh_key_files.specs.declared.fault.KeyFault.{KeyFault}
 use Rattle.rh_key_files.specs.Reading.{KeysFail, file_keys}
 
@@ -9,8 +10,7 @@ Coming = Option (Result (List ℕ) KeyFault)
 
 -- the keys of a step of reading, without the bytes after them
 abbrev pub keys_in : Result (List ℕ × List ℕ) KeyFault → Result (List ℕ) KeyFault
-keys_in (Ok keys) = Ok keys.0
-keys_in (Err e) = Err e
+keys_in read = read >>= (λ keys. Ok keys.0)
 
 -- the keys of a whole file, or its first fault
 abbrev pub keys_of_file : List ℕ → Result (List ℕ) KeyFault

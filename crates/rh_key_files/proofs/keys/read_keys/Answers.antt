@@ -6,7 +6,7 @@ use Rattle.rh_key_files.specs.KeyFile.{IsKeyFile}
 use Rattle.rh_key_files.specs.Limits.{header_bytes}
 use Rattle.rh_key_files.specs.Stream.{header_of}
 use Rattle.rh_key_files.specs.Reading.{file_keys, header_at, is_silent}
-use Rattle.rh_key_files.proofs.Whole.{as_many, whole_ok, header_faults, keys_fault, end_faults, Reads-moved}
+use Rattle.rh_key_files.proofs.Whole.{Reads-moved, all_read, as_many, behind_header, end_stops, header_faults, keys_stop}
 use Rattle.rh_key_files.proofs.Grammar.{file_read}
 use Rattle.rh_bytes.proofs.Reading.{read_from}
 use Rattle.rh_key_files.proofs.Bounds.{HeaderRead, file_stops_in_keys, file_stops_at_end, file_taken, of_file_moved}
@@ -16,28 +16,29 @@ use Rattle.rh_key_files.proofs.keys.read_keys.Goals as goal
 pub returns-in_err-stream-clause-known : goal.returns-in_err-stream-clause-known
 returns-in_err-stream-clause-known g c =
     let p = err_from_is_err_and c.from_residual.result c.from_residual.ensures.1 in
-    rw (p.1, p.2) (header_faults (λ v. v.items) _ _ _ c.in_err-stream.ensures.header)
+    rw (p.1, p.2) (header_faults (λ v. v.items) _ _ _ _ c.in_err-stream.ensures.header)
 
 pub returns-in_err-read_all-clause-known : goal.returns-in_err-read_all-clause-known
 returns-in_err-read_all-clause-known g c =
     let p = err_from_is_err_and c.from_residual-in_err-read_all.result c.from_residual-in_err-read_all.ensures.1 in
     let s = c.in_ok-stream.stream in
     let many : length c.read_all.new.keys ≡ s.count = search rules in
-    rw (p.1, p.2) (keys_fault (λ v. v.items) s.version s.count _ _ _ _ _ _ c.in_ok-stream.ensures.header (as_many _ _ _ _ _ _ _ many c.in_err-read_all.ensures.run.reads.known))
+    rw (p.1, p.2) (behind_header (λ v. v.items) s.version s.count _ _ _ _ c.in_ok-stream.ensures.header (keys_stop (λ v. v.items) s.version s.count _ _ _ _ _ (as_many _ _ _ _ _ _ _ many c.in_err-read_all.ensures.run.reads.known)))
 
 pub returns-in_err-read_end-clause-known : goal.returns-in_err-read_end-clause-known
 returns-in_err-read_end-clause-known g c =
     let p = err_from_is_err_and c.from_residual-in_err-read_end.result c.from_residual-in_err-read_end.ensures.1 in
     let s = c.in_ok-stream.stream in
     let many : length c.read_all.new.keys ≡ s.count = search rules in
-    rw (p.1, p.2) (end_faults (λ v. v.items) s.version s.count _ _ _ _ _ c.read_all.new.keys _ _ c.in_ok-stream.ensures.header (as_many _ _ _ _ _ _ _ many c.in_ok-read_all.ensures.run.reads.known) c.in_err-read_end.ensures.reads.known)
+    rw (p.1, p.2) (behind_header (λ v. v.items) s.version s.count _ _ _ _ c.in_ok-stream.ensures.header (end_stops (λ v. v.items) s.version s.count _ _ _ c.read_all.new.keys (as_many _ _ _ _ _ _ _ many c.in_ok-read_all.ensures.run.reads.known) _ _ _ c.in_err-read_end.ensures.reads.known))
 
 pub returns-clause-known : goal.returns-clause-known
 returns-clause-known g c =
     let s = c.in_ok-stream.stream in
     let many : length c.read_all.new.keys ≡ s.count = search rules in
     let items = with_items_is c.in-Ok.keys c.read_all.new.keys (search rules) in
-    Reads-moved _ _ _ _ _ _ (search rules) (whole_ok (λ v. v.items) s.version s.count _ _ _ _ c.read_all.new.keys (with_items c.in-Ok.keys c.read_all.new.keys) items c.in_ok-stream.ensures.header (as_many _ _ _ _ _ _ _ many c.in_ok-read_all.ensures.run.reads.known) c.in_ok-read_end.ensures.reads.known)
+    Reads-moved _ _ _ _ _ _ (search rules) (behind_header (λ v. v.items) s.version s.count _ _ _ _ c.in_ok-stream.ensures.header
+    (all_read (λ v. v.items) s.version s.count _ _ _ c.read_all.new.keys (as_many _ _ _ _ _ _ _ many c.in_ok-read_all.ensures.run.reads.known) (with_items c.in-Ok.keys c.read_all.new.keys) items c.in_ok-read_end.ensures.reads.known))
 
 pub returns-clause-spelled : goal.returns-clause-spelled
 returns-clause-spelled g c = read_from is_silent IsKeyFile _ _ file_keys (λ v. v.items) _ file_read (returns-clause-known g c)

@@ -15,8 +15,8 @@ returns-in_err-count-clause-reads g c =
 pub returns-then-count-gt-MAX_KEYS-clause-reads : goal.returns-then-count-gt-MAX_KEYS-clause-reads
 unfolding count_at
 returns-then-count-gt-MAX_KEYS-clause-reads g c =
-    part_is_not few c.in_ok-count.ensures (λ bytes. rw (lt-ltb MAX_KEYS c.in_ok-count.count c.if-count-gt-MAX_KEYS.true) refl) (λ is. cc) (λ is. cc)
+    part_is_not few c.in_ok-count.ensures (λ bytes. rw (lt-ltb MAX_KEYS _ c.if-count-gt-MAX_KEYS.true) refl) (λ is. cc) (λ is. cc)
 
 pub returns-clause-reads : goal.returns-clause-reads
 unfolding count_at
-returns-clause-reads g c = part_is few c.in_ok-count.ensures (λ bytes. rw (le-ltb MAX_KEYS c.in_ok-count.count c.if-count-gt-MAX_KEYS.false) refl)
+returns-clause-reads g c = part_is few c.in_ok-count.ensures (λ bytes. rw (le-ltb MAX_KEYS _ c.if-count-gt-MAX_KEYS.false) refl)

@@ -3,20 +3,21 @@ use Rattle.std.proofs.lemmas.List.Concat.{flat_map-append}
 use Rattle.std.proofs.lemmas.Result.{err_from_is_err_and}
 use Rattle.rh_key_files.proofs.Batches.{no_keys, part_goes_on, part_stops}
 use Rattle.rh_bytes.proofs.Taking.{takes_both, takes_fewer, takes_nothing}
-use Rattle.rh_key_files.proofs.BehindMagic.{all_read, as_batch, as_batch_fails, end_fails, keys_fail, number_fails}
-use Rattle.rh_key_files.proofs.PieceBounds.{NumberRead, all_taken, end_stops, memory_stops, number_stops, piece_stops}
+use Rattle.rh_key_files.proofs.BehindMagic.{as_batch, as_batch_fails}
+use Rattle.rh_key_files.proofs.PieceBounds as bounds
+use Rattle.rh_key_files.proofs.PieceBounds.{NumberRead, all_taken, memory_stops, number_stops, piece_stops}
 use Rattle.rh_bytes.specs.Counting.{inner_of}
 use Rattle.rh_bytes.specs.declared.counted.Counted.{Counted}
 use Rattle.rh_key_files.specs.Reading.{header_behind}
 use Rattle.rh_key_files.proofs.Interrupted.{cut_later}
 use Rattle.rh_key_files.proofs.Tested.{behind_long, good_cut, good_front, good_in_header, good_moved, good_whole, header_of}
-use Rattle.rh_key_files.proofs.Whole.{as_many}
+use Rattle.rh_key_files.proofs.Whole.{all_read, as_many, behind_number, end_stops, keys_stop, number_faults}
 use Rattle.rh_key_files.proofs.pieces.read_pieces.Goals as goal
 
 pub returns-in_err-count-clause-known : goal.returns-in_err-count-clause-known
 returns-in_err-count-clause-known g c =
     let p = err_from_is_err_and c.from_residual.result c.from_residual.ensures.1 in
-    rw (p.1, p.2) (number_fails _ c.args.version _ _ _ c.in_err-count.ensures.known)
+    rw (p.1, p.2) (number_faults _ c.args.version _ _ _ _ c.in_err-count.ensures.known)
 
 pub loop-taken-init : goal.loop-taken-init
 loop-taken-init g c = rw c.new-pieces.ensures.items (record { within = omega arith; read = no_keys _ _ _; in_range = λ k d less. absurd (omega (arith, less)); takes = takes_nothing _ _; fine = search rules })
@@ -27,8 +28,8 @@ returns-in_err-piece-clause-known g c =
     let taken = c.loop-taken.taken in
     let count = c.in_ok-count.count in
     let many = min (count - taken) 65536 in
-    rw (p.1, p.2) (keys_fail _ c.args.version count _ _ _ _ (λ u. []) _ c.in_ok-count.ensures.known
-    (part_stops c.args.version 0 taken taken many count _ _ _ _ (λ u. []) _ _ (omega arith) (omega arith) c.loop-taken.invariant.read (as_batch_fails c.args.version taken many _ _ _ _ _ c.in_err-piece.ensures.reads.known)))
+    rw (p.1, p.2) (behind_number _ c.args.version count _ _ _ _ c.in_ok-count.ensures.known (keys_stop _ c.args.version count _ _ _ (λ u. []) _
+    (part_stops c.args.version 0 taken taken many count _ _ _ _ (λ u. []) _ _ (omega arith) (omega arith) c.loop-taken.invariant.read (as_batch_fails c.args.version taken many _ _ _ _ _ c.in_err-piece.ensures.reads.known))))
 
 pub loop-taken-preserved : goal.loop-taken-preserved
 loop-taken-preserved g c =
@@ -48,12 +49,12 @@ pub returns-in_err-read_end-clause-known : goal.returns-in_err-read_end-clause-k
 returns-in_err-read_end-clause-known g c =
     let p = err_from_is_err_and c.from_residual-in_err-read_end.result c.from_residual-in_err-read_end.ensures.1 in
     let all : c.loop-taken.taken ≡ c.in_ok-count.count = omega arith in
-    rw (p.1, p.2) (end_fails _ c.args.version c.in_ok-count.count _ _ _ _ _ _ _ c.in_ok-count.ensures.known (as_many _ _ _ _ _ _ _ all c.loop-taken.invariant.read) c.in_err-read_end.ensures.known)
+    rw (p.1, p.2) (behind_number _ c.args.version c.in_ok-count.count _ _ _ _ c.in_ok-count.ensures.known (end_stops _ c.args.version c.in_ok-count.count _ _ _ _ (as_many _ _ _ _ _ _ _ all c.loop-taken.invariant.read) _ _ _ c.in_err-read_end.ensures.known))
 
 pub returns-clause-known : goal.returns-clause-known
 returns-clause-known g c =
     let all : c.loop-taken.taken ≡ c.in_ok-count.count = omega arith in
-    all_read _ c.args.version c.in_ok-count.count _ _ _ _ _ c.loop-taken.pieces refl c.in_ok-count.ensures.known (as_many _ _ _ _ _ _ _ all c.loop-taken.invariant.read) c.in_ok-read_end.ensures.known
+    behind_number _ c.args.version c.in_ok-count.count _ _ _ _ c.in_ok-count.ensures.known (all_read _ c.args.version c.in_ok-count.count _ _ _ _ (as_many _ _ _ _ _ _ _ all c.loop-taken.invariant.read) c.loop-taken.pieces refl c.in_ok-read_end.ensures.known)
 
 -- ---- the bytes that were taken
 
@@ -77,7 +78,7 @@ returns-in_err-read_end-clause-takes g c =
     let count = c.in_ok-count.count in
     let number : NumberRead _ _ count = record { read = c.in_ok-count.ensures.known; taken = c.in_ok-count.ensures.takes } in
     let all : c.loop-taken.taken ≡ count = omega arith in
-    rw (p.1, p.2) (end_stops _ _ _ _ count _ _ number c.in_err-read_end.ensures.no_memory (takes_fewer _ _ (8 * c.loop-taken.taken) (8 * count) c.loop-taken.invariant.takes (omega (arith, all))) c.in_err-read_end.ensures.takes c.in_err-read_end.ensures.known)
+    rw (p.1, p.2) (bounds.end_stops _ _ _ _ count _ _ number c.in_err-read_end.ensures.no_memory (takes_fewer _ _ (8 * c.loop-taken.taken) (8 * count) c.loop-taken.invariant.takes (omega (arith, all))) c.in_err-read_end.ensures.takes c.in_err-read_end.ensures.known)
 
 pub returns-clause-takes : goal.returns-clause-takes
 returns-clause-takes g c =

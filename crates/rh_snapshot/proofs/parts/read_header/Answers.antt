@@ -1,4 +1,4 @@
-use Rattle.std.proofs.Common.{refl, rules}
+use Rattle.std.proofs.Common.{refl}
 use Rattle.std.proofs.lemmas.Result.{err_from_is_err_and}
 use Rattle.rh_bytes.proofs.Parts.{part_fails, part_is, part_then}
 use Rattle.rh_bytes.proofs.Taking.{takes_then}
