@@ -2,7 +2,7 @@
 use Rattle.std.proofs.Common.{◌≡◌, ℕ, suc, ◌+◌, ◌-◌, ◌<◌, List, [], ◌∷◌, ◌++◌, Option, Some, None, Result, Ok, Err, refl, sym, ap, ◌∙◌, subst, arith, append_assoc, append-nil}
 use Rattle.rh_bytes.specs.Input.{eight_bytes}
 use Rattle.rh_bytes.specs.Input.{◌>>=◌, always, number_at, with_head}
-use Rattle.rh_bytes.proofs.Reading.{Fails-then, with_front, nothing_before}
+use Rattle.rh_bytes.proofs.Reading.{Fails-then, with_front}
 use Rattle.rh_snapshot.specs.declared.header.Header.{Header}
 use Rattle.rh_snapshot.specs.declared.fault.SnapFault.{SnapFault}
 use Rattle.rh_snapshot.specs.declared.fault.SnapFault.TheVariants.{Short}
@@ -17,12 +17,6 @@ abbrev pub ReadsOn : Option (List ℕ) → Option (List ℕ) → ℕ → List �
 ReadsOn None b i front = Unit {0}
 ReadsOn (Some x) None i front = ⊥
 ReadsOn (Some x) (Some y) i front = (m : ℕ) → numbers_at (i + m) x ≡ (numbers_at m y >>= with_front front)
-
-pub none_read : (a : Option (List ℕ)) → ReadsOn a a 0 []
-none_read None = tt
-none_read (Some x) = λ m.
-    let k : 0 + m ≡ m = omega arith in
-    ap (λ j. numbers_at j x) k ∙ sym (nothing_before (numbers_at m x))
 
 one_more : (front : List ℕ) (n : ℕ) (r : Read) → ((r >>= with_head n) >>= with_front front) ≡ (r >>= with_front (front ++ n ∷ []))
 one_more front n (Ok p) = ap (λ l. Ok (l, p.1)) (sym (append_assoc front (n ∷ []) p.0))

@@ -1,12 +1,12 @@
 -- A whole snapshot, read by its header, its numbers, its seal and its end.
-use Rattle.std.proofs.Common.{◌≡◌, ℕ, ◌^◌, true, false, List, [], Option, Some, None, Result, Ok, Err, refl}
+use Rattle.std.proofs.Common.{◌≡◌, ℕ, ◌^◌, true, false, List, [], Option, Result, Ok, Err, refl}
 use Rattle.rh_bytes.specs.Input.{◌>>=◌, bytes_at, end_at}
 use Rattle.rh_bytes.proofs.Reading.{Reads-err, Reads-fails, Reads-ok, Reads-then}
 use Rattle.rh_snapshot.specs.declared.header.Header.{Header}
 use Rattle.rh_snapshot.specs.declared.fault.SnapFault.{SnapFault}
 use Rattle.rh_snapshot.specs.declared.fault.SnapFault.TheVariants.{Damaged, NotALayout, Long, Short}
 use Rattle.rh_snapshot.specs.Snapshot.{Table, table_with}
-use Rattle.rh_snapshot.specs.Reading.{ReadsSnap, BeginsWithSnapHeader, snap_header_at, numbers_at, is_sealed, is_table, table_in, after_snap_header, after_numbers, snap_ended, file_table, is_snap_silent}
+use Rattle.rh_snapshot.specs.Reading.{ReadsSnap, snap_header_at, numbers_at, is_sealed, is_table, table_in, after_snap_header, after_numbers, snap_ended, file_table, is_snap_silent}
 
 abbrev pub HeaderRead : (a b : Option (List ℕ)) → Result Header SnapFault → Type 0
 HeaderRead a b r = ReadsSnap a b snap_header_at (λ (h : Header). h) r
@@ -71,8 +71,3 @@ no_layout header numbers seal good bad = rw (good, bad) refl
 pub is_good : (header : Header) (numbers seal : List ℕ) → is_sealed header numbers seal ≡ true → is_table header numbers ≡ true → table_in header numbers seal ≡ Ok (table_with header numbers seal)
 unfolding table_in
 is_good header numbers seal good table = rw (good, table) refl
-
-pub begins : (a b : Option (List ℕ)) (header : Header) → HeaderRead a b (Ok header) → BeginsWithSnapHeader a
-begins None b header p = tt
-begins (Some x) None header p = absurd p
-begins (Some x) (Some y) header p = ((header, y), p)
