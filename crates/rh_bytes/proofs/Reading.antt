@@ -3,7 +3,7 @@ use Rattle.std.proofs.Common.{◌≡◌, ℕ, zero, suc, Bool, ◌≤◌, ◌<�
 use Rattle.std.proofs.lemmas.Bool.{cases_Bool}
 use Rattle.std.proofs.lemmas.List.{take_at, drop_at, length-take, take_all}
 use Rattle.std.specs.Io.KnownBytes.{Consumes, IsAtEnd}
-use Rattle.rh_bytes.specs.Input.{◌>>=◌, AreAll, Fails, Reads, always, bytes_at, end_at}
+use Rattle.rh_bytes.specs.Input.{◌>>=◌, AreAll, BeginsWith, Fails, Reads, always, bytes_at, end_at}
 use Rattle.rh_bytes.proofs.Spelled.{are_bytes, begins, begins_not}
 
 -- ---- lists of numbers
@@ -53,6 +53,11 @@ module _ {E : Type 0} (silent : E → Bool) where
   read_from Spells None b f v x spelled h = tt
   read_from Spells (Some bytes) None f v x spelled h = absurd h
   read_from Spells (Some bytes) (Some rest) f v x spelled h = spelled bytes (v x, rest) h
+
+  pub Reads-begins : {X Y : Type 0} (a b : Option (List ℕ)) (f : List ℕ → Result (Y × List ℕ) E) (v : X → Y) (x : X) → Reads silent a b f v (Ok x) → BeginsWith f a
+  Reads-begins None b f v x h = tt
+  Reads-begins (Some bytes) None f v x h = absurd h
+  Reads-begins (Some bytes) (Some rest) f v x h = ((v x, rest), h)
 
   -- ---- bytes
 

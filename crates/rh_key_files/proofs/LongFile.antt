@@ -4,14 +4,14 @@ use Rattle.std.specs.Prelude.{IfErr, IfOk}
 use Rattle.rh_key_files.specs.declared.version.Version.{Version}
 use Rattle.rh_key_files.specs.declared.fault.KeyFault.{KeyFault}
 use Rattle.rh_key_files.specs.declared.fault.KeyFault.TheVariants.{BadKey, Long, NotKeys, Short}
-use Rattle.rh_bytes.specs.Input.{◌>>=◌, end_at, fault_of, number_at}
+use Rattle.rh_bytes.specs.Input.{◌>>=◌, BeginsWith, end_at, fault_of, number_at}
 use Rattle.rh_bytes.specs.Taking.{TakesAtMost}
 use Rattle.rh_bytes.proofs.Reading.{Reads-fails, Reads-then, read_from}
 use Rattle.rh_bytes.proofs.Taking.{takes_both, takes_fewer, takes_of_unknown}
 use Rattle.rh_bytes.proofs.Told.{end_told, number_told, then_told}
 use Rattle.rh_key_files.specs.KeyFile.{IsLongKeyFile}
-use Rattle.rh_key_files.specs.Limits.{TakesBehindMagic, TakesOfLongFile, bytes_behind, count_in, first_number, long_count_said, long_file_bytes, magic_bytes, number_said}
-use Rattle.rh_key_files.specs.Reading.{BeginsWithLongHeader, BeginsWithNumber, IsLongReadFrom, ReadsKeys, is_silent, keys_at, keys_behind, keys_ended, long_file_keys, long_header_at, version_at, with_count}
+use Rattle.rh_key_files.specs.Limits.{TakesOfLongFile, bytes_behind, list_bytes, count_in, first_number, long_count_said, long_file_bytes, magic_bytes, number_said}
+use Rattle.rh_key_files.specs.Reading.{BeginsWithLongHeader, IsLongReadFrom, ReadsKeys, header_behind, is_silent, keys_at, keys_behind, keys_ended, long_file_keys, long_header_at, version_at, with_count}
 use Rattle.rh_key_files.proofs.Bounds.{ComesFrom, IsLater, keys_come}
 use Rattle.rh_key_files.proofs.Grammar.{long_read}
 
@@ -33,12 +33,12 @@ module _ {X : Type 0} (view : X → List ℕ) where
   long_spelled a b (Ok x) h = read_from is_silent IsLongKeyFile a b long_file_keys view x long_read h
   long_spelled a b (Err e) h = tt
 
--- a number that can be read behind the magic makes a header
-pub header_begins : (a b : Option (List ℕ)) (version : Version) → MagicRead a b (Ok version) → BeginsWithNumber b → BeginsWithLongHeader a
+-- the magic and what can be read behind it make a header
+pub header_begins : (a b : Option (List ℕ)) (version : Version) → MagicRead a b (Ok version) → BeginsWith (header_behind version) b → BeginsWithLongHeader a
 unfolding long_header_at
-header_begins None b version magic number = tt
-header_begins (Some x) None version magic number = absurd magic
-header_begins (Some x) (Some y) version magic number = ((record { version = version; count = number.0.0 }, number.0.1), rw (magic, number.1) refl)
+header_begins None b version magic begins = tt
+header_begins (Some x) None version magic begins = absurd magic
+header_begins (Some x) (Some y) version magic begins = (begins.0, rw magic begins.1)
 
 -- ---- how many bytes were taken
 
@@ -80,7 +80,7 @@ module _ {X : Type 0} (view : X → List ℕ) where
   whole_fits count version y c (Err (BadKey index)) h = omega arith
   whole_fits count version y c (Err e) h = omega arith
 
-  pub taken_behind : (a b c : Option (List ℕ)) (version : Version) (r : Result X KeyFault) → MagicRead a b (Ok version) → TakesAtMost a b magic_bytes → ReadsKeys b c (keys_behind version) view r → TakesBehindMagic b c (fault_of r)
+  pub taken_behind : (a b c : Option (List ℕ)) (version : Version) (r : Result X KeyFault) → MagicRead a b (Ok version) → TakesAtMost a b magic_bytes → ReadsKeys b c (keys_behind version) view r → TakesAtMost b c (list_bytes b (fault_of r))
       → TakesOfLongFile a c (fault_of r)
   taken_behind None b c version r magic s h t = takes_of_unknown c (long_file_bytes 0 (fault_of r))
   taken_behind (Some x) None c version r magic s h t = absurd magic

@@ -2,14 +2,15 @@
 use Rattle.std.specs.Prelude.{◌≢◌, ℕ, List, Option, Result, Err, IsErrOf}
 use Rattle.rh_bytes.specs.declared.counted.Counted.{Counted}
 use Rattle.rh_bytes.specs.Counting.{Counts, inner_of}
-use Rattle.rh_bytes.specs.Input.{fault_of}
+use Rattle.rh_bytes.specs.Input.{BeginsWith, fault_of}
 use Rattle.rh_bytes.specs.Parts.{ReadsPart}
 use Rattle.rh_bytes.specs.Taking.{TakesAtMost}
 use Rattle.rh_key_files.specs.declared.fault.KeyFault.{KeyFault}
 use Rattle.rh_key_files.specs.declared.fault.KeyFault.TheVariants.{Memory, Read}
+use Rattle.rh_key_files.specs.declared.header.Header.{Header}
 use Rattle.rh_key_files.specs.declared.version.Version.{Version}
 use Rattle.rh_key_files.specs.Limits.{NoReadFailed}
-use Rattle.rh_key_files.specs.Reading.{CutShort, ReadsKeys, is_silent, keys_at}
+use Rattle.rh_key_files.specs.Reading.{CutShort, ReadsKeys, TakesGoodKeys, is_silent, keys_at}
 
 -- a part of the header
 abbrev pub ReadsHead : {R X Y : Type 0} → (R → Option (List ℕ)) → (old new : Counted R) → (List ℕ → Result (Y × List ℕ) KeyFault) → (X → Y) → (most : ℕ) → Result X KeyFault → Type 0
@@ -27,3 +28,11 @@ pub record ReadsRun {R X : Type 0} (bytes_of : R → Option (List ℕ)) (old new
   pub reads : ReadsList bytes_of old new (keys_at version index n) view most r
   pub tested : IsErrOf r Read → CutShort (bytes_of (inner_of old)) (bytes_of (inner_of new)) (keys_at version index n)
   pub no_memory : r ≢ Err Memory
+
+-- A list of any number of keys, behind this header. Want of memory is told only where known bytes begin with it. Where that is told,
+-- or a failed read, none of the keys that were taken is out of range.
+pub record ReadsLongList {R X : Type 0} (bytes_of : R → Option (List ℕ)) (old new : Counted R) (header_in : List ℕ → Result (Header × List ℕ) KeyFault) (reading : List ℕ → Result (List ℕ × List ℕ) KeyFault) (view : X → List ℕ) (most : ℕ) (r : Result X KeyFault) : Type 0 where
+  pub reads : ReadsList bytes_of old new reading view most r
+  pub memory : IsErrOf r Memory → BeginsWith header_in (bytes_of (inner_of old))
+  pub tested : IsErrOf r Read → TakesGoodKeys header_in (bytes_of (inner_of old)) (bytes_of (inner_of new))
+  pub tested_too : IsErrOf r Memory → TakesGoodKeys header_in (bytes_of (inner_of old)) (bytes_of (inner_of new))

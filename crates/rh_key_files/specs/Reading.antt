@@ -153,9 +153,5 @@ IsFirstLongKeyFault (Some bytes) fault = KeysFail {X = List ℕ × List ℕ} fau
 abbrev pub BeginsWithLongHeader : Option (List ℕ) → Type 0
 BeginsWithLongHeader old = BeginsWith long_header_at old
 
--- known bytes begin with a number that can be read, as they do behind the magic
-abbrev pub BeginsWithNumber : Option (List ℕ) → Type 0
-BeginsWithNumber old = BeginsWith (number_at Short) old
-
 abbrev pub IsLongReadFrom : Option (List ℕ) → Option (List ℕ) → List ℕ → Type 0
 IsLongReadFrom old new keys = AreAll IsLongKeyFile old new keys

@@ -3,14 +3,12 @@
 ghost use Rattle.std.specs.Prelude.{◌≡◌, ◌<◌, ◌+◌, ◌*◌, ◌^◌, min, length, All, IfOk, IsErrOf};
 ghost use Rattle.std.specs.List.{flat_map};
 ghost use Rattle.rh_layout.specs.Key.{IsKey};
-ghost use Rattle.rh_bytes.specs.Counting.{Counts, inner_of};
+ghost use Rattle.rh_bytes.specs.Counting.{inner_of};
 ghost use Rattle.rh_bytes.specs.Input.{fault_of};
-ghost use Rattle.rh_key_files.specs.Limits.{NoReadFailed, TakesBehindMagic, TakesOfLongFile, keys_taken};
-ghost use Rattle.rh_key_files.specs.Parts.{ReadsList};
-ghost use Rattle.rh_key_files.specs.Reading.{BeginsWithLongHeader, BeginsWithNumber, IsLongReadFrom};
-ghost use Rattle.rh_key_files.specs.Reading.{CutShort, ReadsKeys, TakesGoodKeys};
-ghost use Rattle.rh_key_files.specs.Reading.{header_behind, keys_at, keys_behind};
-ghost use Rattle.rh_key_files.specs.Reading.{long_file_keys, long_header_at};
+ghost use Rattle.rh_key_files.specs.Limits.{keys_taken, list_bytes, long_list_bytes};
+ghost use Rattle.rh_key_files.specs.Parts.{ReadsList, ReadsLongList};
+ghost use Rattle.rh_key_files.specs.Reading.{CutShort, IsLongReadFrom, header_behind, keys_at};
+ghost use Rattle.rh_key_files.specs.Reading.{keys_behind, long_file_keys, long_header_at};
 
 use crate::batch;
 use crate::fault::KeyFault;
@@ -30,23 +28,13 @@ pub fn read_long_keys<R: Read>(
     alloc: Global,
     reader: &mut Counted<R>,
 ) -> Result<Vec<Vec<u64>>, KeyFault>
-    ensures known { ReadsKeys (R.remaining (inner_of reader.old))
-        (R.remaining (inner_of reader.new))
-        long_file_keys (λ pieces. flat_map (λ piece. piece.items) pieces.items) result }
+    ensures list { ReadsLongList R.remaining reader.old reader.new long_header_at long_file_keys
+        (λ pieces. flat_map (λ piece. piece.items) pieces.items)
+        (long_list_bytes (R.remaining (inner_of reader.old)) (fault_of result)) result }
     ensures spelled { IfOk result (λ pieces. IsLongReadFrom
         (R.remaining (inner_of reader.old)) (R.remaining (inner_of reader.new))
         (flat_map (λ piece. piece.items) pieces.items)) }
     ensures in_range { IfOk result (λ pieces. All (λ piece. All IsKey piece.items) pieces.items) }
-    ensures takes { TakesOfLongFile (R.remaining (inner_of reader.old))
-        (R.remaining (inner_of reader.new)) (fault_of result) }
-    ensures counts { Counts (IsErrOf result KeyFault.Read) (NoReadFailed (fault_of result))
-        reader.old reader.new }
-    ensures memory { IsErrOf result KeyFault.Memory →
-        BeginsWithLongHeader (R.remaining (inner_of reader.old)) }
-    ensures tested { IsErrOf result KeyFault.Read → TakesGoodKeys long_header_at
-        (R.remaining (inner_of reader.old)) (R.remaining (inner_of reader.new)) }
-    ensures tested_too { IsErrOf result KeyFault.Memory → TakesGoodKeys long_header_at
-        (R.remaining (inner_of reader.old)) (R.remaining (inner_of reader.new)) }
 {
     let version = read_version(reader)?;
     read_pieces(alloc, version, reader, &mut Nobody)
@@ -59,20 +47,10 @@ pub fn read_pieces<R: Read, P: Progress>(
     reader: &mut Counted<R>,
     progress: &mut P,
 ) -> Result<Vec<Vec<u64>>, KeyFault>
-    ensures known { ReadsKeys (R.remaining (inner_of reader.old))
-        (R.remaining (inner_of reader.new))
-        (keys_behind version) (λ pieces. flat_map (λ piece. piece.items) pieces.items) result }
+    ensures list { ReadsLongList R.remaining reader.old reader.new (header_behind version)
+        (keys_behind version) (λ pieces. flat_map (λ piece. piece.items) pieces.items)
+        (list_bytes (R.remaining (inner_of reader.old)) (fault_of result)) result }
     ensures in_range { IfOk result (λ pieces. All (λ piece. All IsKey piece.items) pieces.items) }
-    ensures takes { TakesBehindMagic (R.remaining (inner_of reader.old))
-        (R.remaining (inner_of reader.new)) (fault_of result) }
-    ensures counts { Counts (IsErrOf result KeyFault.Read) (NoReadFailed (fault_of result))
-        reader.old reader.new }
-    ensures memory { IsErrOf result KeyFault.Memory →
-        BeginsWithNumber (R.remaining (inner_of reader.old)) }
-    ensures tested { IsErrOf result KeyFault.Read → TakesGoodKeys (header_behind version)
-        (R.remaining (inner_of reader.old)) (R.remaining (inner_of reader.new)) }
-    ensures tested_too { IsErrOf result KeyFault.Memory → TakesGoodKeys (header_behind version)
-        (R.remaining (inner_of reader.old)) (R.remaining (inner_of reader.new)) }
 {
     let count = read_number::<_, KeyFault>(reader)?;
     let mut pieces = Vec::new(alloc);
