@@ -162,6 +162,3 @@ pub file_taken : (a b c d : Option (List ℕ)) (version : Version) (count : ℕ)
 file_taken None b c d version count h s t = of_unknown d None
 file_taken (Some x) b c d version count h s t =
     of_file (Some x) d None (subst (λ n. TakesAtMost (Some x) d (whole_bytes n)) (sym (count_is x b version count h)) (takes_then (Some x) c d (header_bytes + 8 * count) 1 (takes_then (Some x) b c header_bytes (8 * count) h.taken s) t))
-
-pub of_file_moved : (a b d : Option (List ℕ)) (fault : Option KeyFault) → d ≡ b → TakesOfFile a b fault → TakesOfFile a d fault
-of_file_moved a b d fault e t = rw e t

@@ -1,5 +1,5 @@
 -- Keys that were taken behind a header: where a failed read or want of memory is told, none of them is out of range.
-use Rattle.std.proofs.Common.{◌≡◌, ◌∙◌, refl, sym, ap, subst, ℕ, zero, suc, ◌+◌, ◌-◌, ◌≤◌, ◌<◌, min, List, [], ◌++◌, length, Option, Some, None, Result, Ok, Err, arith, append_assoc, append-nil, length-append}
+use Rattle.std.proofs.Common.{◌≡◌, ◌∙◌, refl, sym, ap, subst, ℕ, zero, suc, ◌+◌, ◌-◌, ◌≤◌, List, [], ◌++◌, length, Option, Some, None, Result, Ok, Err, arith, append_assoc, append-nil, length-append}
 use Rattle.std.proofs.lemmas.List.{append_cancel_right, nil_from_length}
 use Rattle.rh_key_files.specs.declared.version.Version.{Version}
 use Rattle.rh_key_files.specs.declared.version.Version.TheVariants.{First, Second}
@@ -13,11 +13,10 @@ use Rattle.rh_bytes.proofs.Reading.{with_front}
 use Rattle.rh_bytes.proofs.Taking.{takes_fewer}
 use Rattle.rh_key_files.specs.KeyFile.{magic, spelled_keys}
 use Rattle.rh_key_files.specs.Limits.{header_bytes, header_taken, magic_bytes}
-use Rattle.rh_key_files.specs.Reading.{CutShort, IsGood, ReadsKeys, TakesGoodKeys, batch_at, header_at, header_behind, keys_at, long_header_at, version_at, with_count}
+use Rattle.rh_key_files.specs.Reading.{CutShort, IsGood, ReadsKeys, TakesGoodKeys, header_at, header_behind, keys_at, long_header_at, version_at, with_count}
 use Rattle.rh_key_files.proofs.Batches.{and_next, keys_at-add}
 use Rattle.rh_key_files.proofs.Filled.{no_key}
 use Rattle.rh_key_files.proofs.Grammar.{header_read, keys_given, keys_read, version_read}
-use Rattle.rh_key_files.proofs.Next.{some_left}
 
 -- ---- good keys
 
@@ -148,13 +147,6 @@ good_behind (Some x) None c version magic good = absurd magic
 good_behind (Some x) (Some y) None version magic good = good
 good_behind (Some x) (Some y) (Some z) version magic good = λ header taken is. good header taken (sym (ap (λ r. r >>= (λ begun. header_behind begun.0 begun.1)) magic) ∙ is)
 
--- ---- the batch of all keys
-
+-- as many keys as the header said
 pub as_many_cut : (version : Version) (m n : ℕ) (a b : Option (List ℕ)) → m ≡ n → CutShort a b (keys_at version 0 m) → CutShort a b (keys_at version 0 n)
 as_many_cut version m n a b is h = subst (λ k. CutShort a b (keys_at version 0 k)) is h
-
-pub all_cut : (version : Version) (taken left room many : ℕ) (a b : Option (List ℕ)) → taken ≡ 0 → 0 < left → many ≡ min room left → CutShort a b (batch_at version taken left room) → CutShort a b (keys_at version 0 many)
-all_cut version taken left room many None b start some is h = tt
-all_cut version taken left room many (Some x) None start some is h = absurd h
-all_cut version taken left room many (Some x) (Some y) start some is (cut, parts, early) =
-    (cut, parts, ap (λ i. keys_at version i many cut) (sym start) ∙ sym (some_left version taken left room many cut some is) ∙ early)
