@@ -4,6 +4,7 @@ use Rattle.std.proofs.lemmas.List.{length-map}
 use mathlib.Core.Option.{some}
 use lib.ListN.{get_elem?}
 use Rattle.atomic_table.specs.Table.{Allows, Me}
+use Rattle.atomic_table.specs.declared.shared.Seat as kept
 use Rattle.rh_rule.specs.declared.rule.Sitter.{Sitter}
 use Rattle.rh_words.specs.declared.shape.Shape.{Shape}
 use Rattle.rh_words.specs.Parts.{cell_count}
@@ -11,7 +12,8 @@ use Rattle.rh_words.specs.View.{View, round_view}
 use Rattle.rh_rule.specs.Seats.{AreMade, Begun, RuleHolds, InView, IsWiping, NoSlot, Spans, WipeSteps, all_views, sitter}
 use Rattle.rh_rule.specs.Wipes.{row_total, wiping_view}
 use Rattle.rh_rule.proofs.SeatsKept.{all_may_wipe, of_map}
-use Rattle.rh_shared.specs.Crews.{IsFresh, IsQuiet}
+use Rattle.rh_shared.specs.Crews.{IsFresh, IsQuiet, IsWholeSeat}
+use Rattle.rh_shared.specs.declared.table.Table.{Table}
 use Rattle.rh_shared.specs.Ends.{IsWiped, cleared_to, kept_cells, renewed, with_cleared}
 use Rattle.rh_shared.proofs.Crews.{IsHalf}
 
@@ -90,8 +92,12 @@ pub finished : (z : Shape) (vs us : List Sitter) (m : AreMade z vs) (n : ℕ) �
 finished z vs us m n is = record { made = m; views = ap (all_views renewed) is ∙ all_twice renewed (wiping_view m.cells n) (round_view m.cells) (λ v. refl) vs }
 
 -- the seat in the midst of a wipe
-pub wiping_spans : (vs us : List Sitter) (cells : List ℕ) (n first count : ℕ) → us ≡ all_views (wiping_view cells n) vs → Spans vs first count → Spans us first count
-wiping_spans vs us cells n first count is s = subst (λ (l : List Sitter). Spans l first count) (sym is) (spans_views (wiping_view cells n) (λ v. refl) vs first count s)
+pub still_whole : (t : Table) (s next : kept.Seat NoSlot (List Sitter)) (cells : List ℕ) (n : ℕ) → next.table_id ≡ s.table_id → next.me ≡ (all_views (wiping_view cells n) s.me.0, []) → IsWholeSeat t s → IsWholeSeat t next
+still_whole t s next cells n same is whole = record {
+  own = same ∙ whole.own;
+  empty = ap (λ x. x.1) is;
+  all = subst (λ (l : List Sitter). Spans l 0 t.shape.workers) (sym (ap (λ x. x.0) is)) (spans_views (wiping_view cells n) (λ v. refl) s.me.0 0 t.shape.workers whole.all);
+}
 
 pub are_wiping : (vs us : List Sitter) (cells : List ℕ) (n : ℕ) → us ≡ all_views (wiping_view cells n) vs → InView (IsWiping cells n) us
 are_wiping vs us cells n is = subst (λ (l : List Sitter). InView (IsWiping cells n) l) (sym is) (in_views (IsWiping cells n) (wiping_view cells n) (λ v. refl) vs)

@@ -1,9 +1,11 @@
 -- Seats of several workers.
 use Rattle.std.specs.Prelude.{◌≡◌, ℕ, ◌+◌, ◌≤◌, None, List, [], ◌∷◌, ◌++◌, take, drop}
+use Rattle.atomic_table.specs.declared.shared.Seat as kept
 use Rattle.rh_world.specs.Sides.{AtRest}
 use Rattle.rh_rule.specs.declared.rule.Sitter.{Sitter}
 use Rattle.rh_words.specs.declared.shape.Shape.{Shape}
 use Rattle.rh_words.specs.View.{View, new_view, round_view}
+use Rattle.rh_rule.specs.Seats.{NoSlot, Spans}
 use Rattle.rh_rule.specs.Sound.{Sound}
 use Rattle.rh_shared.specs.declared.seat.Seat.{Seat}
 use Rattle.rh_shared.specs.declared.table.Table.{Table}
@@ -19,6 +21,12 @@ pub record HasAll (t : Table) (s : Seat) : Type 0 where
   pub own : s.inner.table_id ≡ t.inner.shared.table_id
   pub first : s.side.worker ≡ 0
   pub count : s.count ≡ t.shape.workers
+
+-- what the table keeps of that seat: it is of this table, and has a view of each worker and nothing else
+pub record IsWholeSeat (t : Table) (s : kept.Seat NoSlot (List Sitter)) : Type 0 where
+  pub own : s.table_id ≡ t.inner.shared.table_id
+  pub empty : s.me.1 ≡ []
+  pub all : Spans s.me.0 0 t.shape.workers
 
 -- what is kept of its workers
 abbrev pub views_of : Seat → List Sitter

@@ -3,10 +3,10 @@
 ghost use Rattle.std.specs.Prelude.{◌≡◌, ◌+◌, ◌<◌, [], ℕ, List, None};
 ghost use Rattle.atomic_table.specs.Table.{Allows};
 ghost use Rattle.rh_words.specs.Parts.{word_count};
-ghost use Rattle.rh_shared.specs.Crews.{HasAll, IsFresh, IsQuiet, UsedNoRow, views_of};
+ghost use Rattle.rh_shared.specs.Crews.{HasAll, IsFresh, IsQuiet, IsWholeSeat, UsedNoRow, views_of};
 ghost use Rattle.rh_shared.specs.Ends.{IsWiped, renewed, with_cleared};
 ghost use Rattle.rh_shared.specs.Rests.{SeatRests};
-ghost use Rattle.rh_rule.specs.Seats.{Begun, RuleHolds, InView, IsWiping, NoSlot, Spans, all_views};
+ghost use Rattle.rh_rule.specs.Seats.{Begun, RuleHolds, InView, IsWiping, NoSlot, all_views};
 ghost use Rattle.rh_rule.specs.Wipes.{row_total};
 
 use crate::seat::Seat;
@@ -56,9 +56,7 @@ pub fn wipe(table: &Table, seat: &mut Seat)
 }
 
 fn wipe_rows(table: &Table, seat: &mut Inner)
-    requires own { seat.old.table_id ≡ table.now.inner.shared.table_id }
-    requires empty { seat.old.me.1 ≡ [] }
-    requires all { Spans seat.old.me.0 0 table.now.shape.workers }
+    requires whole { IsWholeSeat table.now seat.old }
     requires rest { InView IsQuiet seat.old.me.0 }
     ensures own { seat.new.table_id ≡ seat.old.table_id }
     ensures empty { seat.new.me.1 ≡ [] }
@@ -74,9 +72,7 @@ fn wipe_rows(table: &Table, seat: &mut Inner)
 /// The cells are kept from here on. What a table keeps of a seat changes by an access alone: so a
 /// word is loaded, for the proof and nothing else.
 fn begin(table: &Table, seat: &mut Inner)
-    requires own { seat.old.table_id ≡ table.now.inner.shared.table_id }
-    requires empty { seat.old.me.1 ≡ [] }
-    requires all { Spans seat.old.me.0 0 table.now.shape.workers }
+    requires whole { IsWholeSeat table.now seat.old }
     requires rest { InView IsQuiet seat.old.me.0 }
     ensures own { seat.new.table_id ≡ seat.old.table_id }
     ensures begun { Begun table.now.shape seat.old.me.0 seat.new.me }
@@ -86,9 +82,7 @@ fn begin(table: &Table, seat: &mut Inner)
 
 /// Clears the next word of the rows.
 fn clear(table: &Table, seat: &mut Inner, row: usize)
-    requires own { seat.old.table_id ≡ table.now.inner.shared.table_id }
-    requires empty { seat.old.me.1 ≡ [] }
-    requires all { Spans seat.old.me.0 0 table.now.shape.workers }
+    requires whole { IsWholeSeat table.now seat.old }
     requires row { row < row_total table.now.shape }
     requires wiping { (cells : List ℕ) × InView (IsWiping cells row) seat.old.me.0 }
     ensures own { seat.new.table_id ≡ seat.old.table_id }
@@ -99,9 +93,7 @@ fn clear(table: &Table, seat: &mut Inner, row: usize)
 
 /// A round begins. This load is for the proof, too.
 fn finish(table: &Table, seat: &mut Inner)
-    requires own { seat.old.table_id ≡ table.now.inner.shared.table_id }
-    requires empty { seat.old.me.1 ≡ [] }
-    requires all { Spans seat.old.me.0 0 table.now.shape.workers }
+    requires whole { IsWholeSeat table.now seat.old }
     requires wiping { (cells : List ℕ)
         × InView (IsWiping cells (row_total table.now.shape)) seat.old.me.0 }
     ensures own { seat.new.table_id ≡ seat.old.table_id }

@@ -5,4 +5,4 @@ pub load-requires-clause-allowed : goal.load-requires-clause-allowed
 load-requires-clause-allowed c =
     let t = c.args.table.now in
     let q = c.args.seat.now in
-    may_begin t.shape t.inner.shared.table_id.slots q.id q.me c.requires.empty c.requires.all c.requires.rest
+    may_begin t.shape t.inner.shared.table_id.slots q.id q.me c.requires.whole.empty c.requires.whole.all c.requires.rest

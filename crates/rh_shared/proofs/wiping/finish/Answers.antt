@@ -6,4 +6,4 @@ load-requires-clause-allowed c =
     let t = c.args.table.now in
     let q = c.args.seat.now in
     let w = c.requires.wiping in
-    may_finish t.shape t.inner.shared.table_id.slots q.id q.me c.requires.empty c.requires.all w.0 w.1
+    may_finish t.shape t.inner.shared.table_id.slots q.id q.me c.requires.whole.empty c.requires.whole.all w.0 w.1

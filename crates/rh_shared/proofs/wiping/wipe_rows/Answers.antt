@@ -2,20 +2,14 @@ use Rattle.std.proofs.Common.{◌≡◌, ℕ, [], ap, ◌∙◌, arith, subst, s
 use Rattle.rh_rule.specs.Seats.{InView, IsWiping}
 use Rattle.rh_rule.specs.Wipes.{row_total}
 use Rattle.rh_shared.specs.Ends.{IsWiped}
-use Rattle.rh_shared.proofs.Clearing.{are_wiping, cleared_on, finished, wiping_spans}
+use Rattle.rh_shared.proofs.Clearing.{are_wiping, cleared_on, finished, still_whole}
 use Rattle.rh_shared.proofs.wiping.wipe_rows.Goals as goal
 
 pub loop-row-init : goal.loop-row-init
 loop-row-init c = record { within = omega arith; own = c.begin.ensures.own; at = let b = c.begin.ensures.begun in (b.made, b.view) }
 
-pub clear-requires-clause-own : goal.clear-requires-clause-own
-clear-requires-clause-own c = c.loop-row.invariant.own ∙ c.requires.own
-
-pub clear-requires-clause-empty : goal.clear-requires-clause-empty
-clear-requires-clause-empty c = ap (λ x. x.1) c.loop-row.invariant.at.1
-
-pub clear-requires-clause-all : goal.clear-requires-clause-all
-clear-requires-clause-all c = let a = c.loop-row.invariant.at in wiping_spans c.args.seat.now.me.0 _ a.0.cells c.loop-row.row _ _ (ap (λ x. x.0) a.1) c.requires.all
+pub clear-requires-clause-whole : goal.clear-requires-clause-whole
+clear-requires-clause-whole c = let a = c.loop-row.invariant.at in still_whole c.args.table.now c.args.seat.now _ a.0.cells c.loop-row.row c.loop-row.invariant.own a.1 c.requires.whole
 
 pub clear-requires-clause-wiping : goal.clear-requires-clause-wiping
 clear-requires-clause-wiping c = let a = c.loop-row.invariant.at in (a.0.cells, are_wiping c.args.seat.now.me.0 _ a.0.cells c.loop-row.row (ap (λ x. x.0) a.1))
@@ -26,8 +20,8 @@ loop-row-preserved c =
     let on = cleared_on c.args.seat.now.me.0 _ a.0.cells c.loop-row.row (ap (λ x. x.0) a.1) in
     record { within = let e = c.loop-row-test.true in let w = c.words.ensures in let n = c.cells.ensures in omega (arith, e, w, n); own = c.clear.ensures.own ∙ c.loop-row.invariant.own; at = (a.0, c.clear.ensures.view ∙ (λ i. (on i, []))) }
 
-pub finish-requires-clause-all : goal.finish-requires-clause-all
-finish-requires-clause-all c = let a = c.loop-row.invariant.at in wiping_spans c.args.seat.now.me.0 _ a.0.cells c.loop-row.row _ _ (ap (λ x. x.0) a.1) c.requires.all
+pub finish-requires-clause-whole : goal.finish-requires-clause-whole
+finish-requires-clause-whole c = let a = c.loop-row.invariant.at in still_whole c.args.table.now c.args.seat.now _ a.0.cells c.loop-row.row c.loop-row.invariant.own a.1 c.requires.whole
 
 pub finish-requires-clause-wiping : goal.finish-requires-clause-wiping
 finish-requires-clause-wiping c =
