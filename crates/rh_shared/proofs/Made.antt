@@ -4,7 +4,7 @@ use Rattle.std.specs.Prelude.{IsSome, MatchOption}
 use Rattle.std.proofs.lemmas.List.{ext_get_or, get_or-map, get_or-set_other, get_or-set_same, length-map, take_all}
 use mathlib.Core.Option.{some, some-injective, some-ne-none}
 use lib.ListN.{get_elem?}
-use Rattle.atomic_table.specs.Table.{State, opening}
+use Rattle.atomic_table.specs.Table.{Final, Seen, State, opening}
 use Rattle.rh_world.proofs.Updated.{same_nat}
 use Rattle.rh_tagword.specs.Word.{IsValue, is_plain, plain_number, tag_of}
 use Rattle.rh_tagword.proofs.PlainWords.{value_said, value_there}
@@ -18,7 +18,9 @@ use Rattle.rh_rule.specs.Seats.{AreMade, RuleHolds, InView, NoSlot, Spans, first
 use Rattle.rh_rule.specs.Wipes.{row_total}
 use Rattle.rh_rule.proofs.SeatsKept.{close_sees, item_at, new_at, new_long, starts}
 use Rattle.rh_rule.proofs.Telling.{rests}
-use Rattle.rh_shared.specs.Crews.{IsFresh, IsQuiet, head_of}
+use Rattle.rh_shared.specs.declared.seat.Seat.{Seat}
+use Rattle.rh_shared.specs.declared.table.Table.{Table}
+use Rattle.rh_shared.specs.Crews.{HasAll, IsFresh, IsQuiet, head_of, views_of}
 use Rattle.rh_shared.specs.Ends.{Leaves}
 use Rattle.rh_shared.proofs.Crews.{IsHalf}
 
@@ -98,11 +100,13 @@ closes z y id vs st same all holds at quiet =
       omega (arith, sized),
     )
 
-pub closes_with : (z y : Shape) (id : ℕ) (vs : List Sitter) (st : State NoSlot (List Sitter)) (words : List ℕ) → y ≡ z → Spans vs 0 z.workers → RuleHolds {S = NoSlot} y st
-    → get_elem? st.views id ≡ some vs → InView IsQuiet vs → st.words ≡ words → (m : AreMade z vs) × (m.cells ≡ take (cell_count z) words) × (cell_count z ≤ length words)
-closes_with z y id vs st words same all holds at quiet is =
-    let r = closes z y id vs st same all holds at quiet in
-    (r.0, subst (λ (ws : List ℕ). r.0.cells ≡ take (cell_count z) ws) is r.1, subst (λ (ws : List ℕ). cell_count z ≤ length ws) is r.2)
+-- at the close of the table, with the seat of all workers
+pub closes_with : (t : Table) (q : Seat) (words : List ℕ) (homes : List NoSlot) → HasAll t q → InView IsQuiet (views_of q) → Final (Seen (RuleHolds {S = NoSlot} t.inner.shared.key.shape) q.inner.id (views_of q)) words homes
+    → (m : AreMade t.shape (views_of q)) × (m.cells ≡ take (cell_count t.shape) words) × (cell_count t.shape ≤ length words)
+closes_with t q words homes all quiet final =
+    let spans : Spans (views_of q) 0 t.shape.workers = subst (λ (x : ℕ × ℕ). Spans (views_of q) x.0 x.1) (λ i. (all.first i, all.count i)) q.spans in
+    let r = closes t.shape t.inner.shared.key.shape q.inner.id (views_of q) final.0 t.same spans final.1.0 final.1.1 quiet in
+    (r.0, subst (λ (ws : List ℕ). r.0.cells ≡ take (cell_count t.shape) ws) final.2 r.1, subst (λ (ws : List ℕ). cell_count t.shape ≤ length ws) final.2 r.2)
 
 module _ (z : Shape) (vs : List Sitter) (words : List ℕ) (m : AreMade z vs) (front : m.cells ≡ take (cell_count z) words) where
   pub front_plain : (c : ℕ) → c < cell_count z → IsPlain (get_or words c 0)

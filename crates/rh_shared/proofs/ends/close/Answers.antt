@@ -1,6 +1,5 @@
-use Rattle.std.proofs.Common.{ℕ, ◌∙◌, length-set, subst, arith}
+use Rattle.std.proofs.Common.{◌∙◌, length-set, arith}
 use Rattle.std.specs.Mem.Slots.{slots_items}
-use Rattle.rh_rule.specs.Seats.{Spans}
 use Rattle.rh_shared.proofs.Made.{closes_with, leaves, one_more, value_given}
 use Rattle.rh_shared.proofs.ends.close.Goals as goal
 
@@ -8,9 +7,7 @@ pub unwrap-value-requires : goal.unwrap-value-requires
 unwrap-value-requires c =
     let t = c.args.table in
     let q = c.args.seat in
-    let f = c.close_with-closed.ensures.values.2 in
-    let m = closes_with t.shape t.inner.shared.key.shape q.inner.id q.inner.me.0 f.0 (slots_items c.close_with-closed.result.words) t.same
-    (subst (λ (x : ℕ × ℕ). Spans q.inner.me.0 x.0 x.1) (λ i. (c.requires.all.first i, c.requires.all.count i)) q.spans) f.1.0 f.1.1 c.requires.rest f.2 in
+    let m = closes_with t q _ _ c.requires.all c.requires.rest c.close_with-closed.ensures.values.2 in
     let l = c.loop-cell in
     let sized = l.invariant.sized in
     let size = c.requires.sized in
@@ -21,9 +18,7 @@ pub loop-cell-preserved : goal.loop-cell-preserved
 loop-cell-preserved c =
     let t = c.args.table in
     let q = c.args.seat in
-    let f = c.close_with-closed.ensures.values.2 in
-    let m = closes_with t.shape t.inner.shared.key.shape q.inner.id q.inner.me.0 f.0 (slots_items c.close_with-closed.result.words) t.same
-    (subst (λ (x : ℕ × ℕ). Spans q.inner.me.0 x.0 x.1) (λ i. (c.requires.all.first i, c.requires.all.count i)) q.spans) f.1.0 f.1.1 c.requires.rest f.2 in
+    let m = closes_with t q _ _ c.requires.all c.requires.rest c.close_with-closed.ensures.values.2 in
     let l = c.loop-cell in
     let sized = l.invariant.sized in
     let size = c.requires.sized in
@@ -38,9 +33,7 @@ pub returns : goal.returns
 returns c =
     let t = c.args.table in
     let q = c.args.seat in
-    let f = c.close_with-closed.ensures.values.2 in
-    let m = closes_with t.shape t.inner.shared.key.shape q.inner.id q.inner.me.0 f.0 (slots_items c.close_with-closed.result.words) t.same
-    (subst (λ (x : ℕ × ℕ). Spans q.inner.me.0 x.0 x.1) (λ i. (c.requires.all.first i, c.requires.all.count i)) q.spans) f.1.0 f.1.1 c.requires.rest f.2 in
+    let m = closes_with t q _ _ c.requires.all c.requires.rest c.close_with-closed.ensures.values.2 in
     let l = c.loop-cell in
     let sized = l.invariant.sized in
     let size = c.requires.sized in
