@@ -24,9 +24,5 @@ pub fn claim(table: &Table, seat: &mut Seat) -> Option<u64>
         seat: &mut seat.inner,
     };
     let position = here.make(&table.shape, &mut seat.side, Request::Claim);
-    if position < table.shape.keys {
-        Some(position)
-    } else {
-        None
-    }
+    (position < table.shape.keys).then_some(position)
 }

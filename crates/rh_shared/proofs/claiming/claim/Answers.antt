@@ -2,19 +2,8 @@ use Rattle.std.proofs.Common.{◌∙◌, rules}
 use Rattle.rh_shared.proofs.Claimed.{claim_rested}
 use Rattle.rh_shared.proofs.claiming.claim.Goals as goal
 
-pub returns-then-position-table-clause-stays : goal.returns-then-position-table-clause-stays
-returns-then-position-table-clause-stays c =
-    let e = c.make-position.ensures in record {
-      same = search rules;
-      rests = record {
-        here = record { own = e.makes.seat ∙ c.requires.rests.here.own; alone = c.requires.rests.here.alone };
-        knows = e.trusts.knows;
-        rested = claim_rested _ _ _ e.view_is c.requires.rests.rested;
-      };
-    }
-
-pub returns-else-position-table-clause-stays : goal.returns-else-position-table-clause-stays
-returns-else-position-table-clause-stays c =
+pub returns-clause-stays : goal.returns-clause-stays
+returns-clause-stays c =
     let e = c.make-position.ensures in record {
       same = search rules;
       rests = record {
