@@ -10,7 +10,7 @@ use Rattle.rh_bytes.proofs.Reading.{Reads-fails, Reads-then, read_from}
 use Rattle.rh_bytes.proofs.Taking.{takes_both, takes_fewer, takes_of_unknown}
 use Rattle.rh_bytes.proofs.Told.{end_told, number_told, then_told}
 use Rattle.rh_key_files.specs.KeyFile.{IsLongKeyFile}
-use Rattle.rh_key_files.specs.Limits.{TakesOfLongFile, bytes_behind, list_bytes, count_in, first_number, long_count_said, long_file_bytes, magic_bytes, number_said}
+use Rattle.rh_key_files.specs.Limits.{TakesBehindMagic, TakesOfLongFile, bytes_behind, count_in, first_number, long_count_said, long_file_bytes, magic_bytes, number_said}
 use Rattle.rh_key_files.specs.Reading.{BeginsWithLongHeader, IsLongReadFrom, ReadsKeys, header_behind, is_silent, keys_at, keys_behind, keys_ended, long_file_keys, long_header_at, version_at, with_count}
 use Rattle.rh_key_files.proofs.Bounds.{ComesFrom, IsLater, keys_come}
 use Rattle.rh_key_files.proofs.Grammar.{long_read}
@@ -80,7 +80,7 @@ module _ {X : Type 0} (view : X → List ℕ) where
   whole_fits count version y c (Err (BadKey index)) h = omega arith
   whole_fits count version y c (Err e) h = omega arith
 
-  pub taken_behind : (a b c : Option (List ℕ)) (version : Version) (r : Result X KeyFault) → MagicRead a b (Ok version) → TakesAtMost a b magic_bytes → ReadsKeys b c (keys_behind version) view r → TakesAtMost b c (list_bytes b (fault_of r))
+  pub taken_behind : (a b c : Option (List ℕ)) (version : Version) (r : Result X KeyFault) → MagicRead a b (Ok version) → TakesAtMost a b magic_bytes → ReadsKeys b c (keys_behind version) view r → TakesBehindMagic b c (fault_of r)
       → TakesOfLongFile a c (fault_of r)
   taken_behind None b c version r magic s h t = takes_of_unknown c (long_file_bytes 0 (fault_of r))
   taken_behind (Some x) None c version r magic s h t = absurd magic

@@ -94,14 +94,10 @@ abbrev pub long_count_said : Option (List ℕ) → ℕ
 long_count_said None = 0
 long_count_said (Some bytes) = count_in (long_header_at bytes)
 
--- of what stands behind the magic, where these bytes do
-abbrev pub list_bytes : Option (List ℕ) → Option KeyFault → ℕ
-list_bytes bytes fault = bytes_behind (number_said bytes) fault
+-- What stands behind the magic was read, up to this fault if there is one, and the bytes behind that are still there.
+abbrev pub TakesBehindMagic : (old new : Option (List ℕ)) → Option KeyFault → Type 0
+TakesBehindMagic old new fault = TakesAtMost old new (bytes_behind (number_said old) fault)
 
--- of a whole file of these bytes
-abbrev pub long_list_bytes : Option (List ℕ) → Option KeyFault → ℕ
-long_list_bytes bytes fault = long_file_bytes (long_count_said bytes) fault
-
--- A whole file was read, up to this fault if there is one, and the bytes behind that are still there.
+-- The same of a whole file.
 abbrev pub TakesOfLongFile : (old new : Option (List ℕ)) → Option KeyFault → Type 0
-TakesOfLongFile old new fault = TakesAtMost old new (long_list_bytes old fault)
+TakesOfLongFile old new fault = TakesAtMost old new (long_file_bytes (long_count_said old) fault)

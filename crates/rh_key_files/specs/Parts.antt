@@ -29,10 +29,12 @@ pub record ReadsRun {R X : Type 0} (bytes_of : R → Option (List ℕ)) (old new
   pub tested : IsErrOf r Read → CutShort (bytes_of (inner_of old)) (bytes_of (inner_of new)) (keys_at version index n)
   pub no_memory : r ≢ Err Memory
 
--- A list of any number of keys, behind this header. Want of memory is told only where known bytes begin with it. Where that is told,
--- or a failed read, none of the keys that were taken is out of range.
-pub record ReadsLongList {R X : Type 0} (bytes_of : R → Option (List ℕ)) (old new : Counted R) (header_in : List ℕ → Result (Header × List ℕ) KeyFault) (reading : List ℕ → Result (List ℕ × List ℕ) KeyFault) (view : X → List ℕ) (most : ℕ) (r : Result X KeyFault) : Type 0 where
-  pub reads : ReadsList bytes_of old new reading view most r
+-- A whole list, behind this header. Want of memory is told only where known bytes begin with it. Where that is told, or a failed
+-- read, none of the keys that were taken is out of range.
+pub record ReadsWholeList {R X : Type 0} (bytes_of : R → Option (List ℕ)) (old new : Counted R) (header_in : List ℕ → Result (Header × List ℕ) KeyFault) (reading : List ℕ → Result (List ℕ × List ℕ) KeyFault) (Takes : (old new : Option (List ℕ)) → Option KeyFault → Type 0) (view : X → List ℕ) (r : Result X KeyFault) : Type 0 where
+  pub known : ReadsKeys (bytes_of (inner_of old)) (bytes_of (inner_of new)) reading view r
+  pub takes : Takes (bytes_of (inner_of old)) (bytes_of (inner_of new)) (fault_of r)
+  pub counts : Counts (IsErrOf r Read) (NoReadFailed (fault_of r)) old new
   pub memory : IsErrOf r Memory → BeginsWith header_in (bytes_of (inner_of old))
   pub tested : IsErrOf r Read → TakesGoodKeys header_in (bytes_of (inner_of old)) (bytes_of (inner_of new))
   pub tested_too : IsErrOf r Memory → TakesGoodKeys header_in (bytes_of (inner_of old)) (bytes_of (inner_of new))

@@ -5,8 +5,8 @@ ghost use Rattle.std.specs.List.{flat_map};
 ghost use Rattle.rh_layout.specs.Key.{IsKey};
 ghost use Rattle.rh_bytes.specs.Counting.{inner_of};
 ghost use Rattle.rh_bytes.specs.Input.{fault_of};
-ghost use Rattle.rh_key_files.specs.Limits.{keys_taken, list_bytes, long_list_bytes};
-ghost use Rattle.rh_key_files.specs.Parts.{ReadsList, ReadsLongList};
+ghost use Rattle.rh_key_files.specs.Limits.{TakesBehindMagic, TakesOfLongFile, keys_taken};
+ghost use Rattle.rh_key_files.specs.Parts.{ReadsList, ReadsWholeList};
 ghost use Rattle.rh_key_files.specs.Reading.{CutShort, IsLongReadFrom, header_behind, keys_at};
 ghost use Rattle.rh_key_files.specs.Reading.{keys_behind, long_file_keys, long_header_at};
 
@@ -28,9 +28,8 @@ pub fn read_long_keys<R: Read>(
     alloc: Global,
     reader: &mut Counted<R>,
 ) -> Result<Vec<Vec<u64>>, KeyFault>
-    ensures list { ReadsLongList R.remaining reader.old reader.new long_header_at long_file_keys
-        (λ pieces. flat_map (λ piece. piece.items) pieces.items)
-        (long_list_bytes (R.remaining (inner_of reader.old)) (fault_of result)) result }
+    ensures list { ReadsWholeList R.remaining reader.old reader.new long_header_at long_file_keys
+        TakesOfLongFile (λ pieces. flat_map (λ piece. piece.items) pieces.items) result }
     ensures spelled { IfOk result (λ pieces. IsLongReadFrom
         (R.remaining (inner_of reader.old)) (R.remaining (inner_of reader.new))
         (flat_map (λ piece. piece.items) pieces.items)) }
@@ -47,9 +46,9 @@ pub fn read_pieces<R: Read, P: Progress>(
     reader: &mut Counted<R>,
     progress: &mut P,
 ) -> Result<Vec<Vec<u64>>, KeyFault>
-    ensures list { ReadsLongList R.remaining reader.old reader.new (header_behind version)
-        (keys_behind version) (λ pieces. flat_map (λ piece. piece.items) pieces.items)
-        (list_bytes (R.remaining (inner_of reader.old)) (fault_of result)) result }
+    ensures list { ReadsWholeList R.remaining reader.old reader.new (header_behind version)
+        (keys_behind version) TakesBehindMagic
+        (λ pieces. flat_map (λ piece. piece.items) pieces.items) result }
     ensures in_range { IfOk result (λ pieces. All (λ piece. All IsKey piece.items) pieces.items) }
 {
     let count = read_number::<_, KeyFault>(reader)?;

@@ -21,7 +21,9 @@ returns-in_err-count-clause-list g c =
     let p = err_from_is_err_and c.from_residual.result c.from_residual.ensures.1 in
     let number = c.in_err-count.ensures in
     rw (p.1, p.2) (record {
-      reads = record { known = number_faults _ c.args.version _ _ _ _ number.known; takes = number_stops _ _ _ number.takes; counts = search rules };
+      known = number_faults _ c.args.version _ _ _ _ number.known;
+      takes = number_stops _ _ _ number.takes;
+      counts = search rules;
       memory = search rules;
       tested = λ _. good_in_header (header_behind c.args.version) 8 _ _ (behind_long c.args.version) number.takes;
       tested_too = search rules;
@@ -41,12 +43,10 @@ returns-in_err-piece-clause-list g c =
     let number : NumberRead _ _ count = record { read = c.in_ok-count.ensures.known; taken = c.in_ok-count.ensures.takes } in
     let header = header_of c.args.version _ _ count number.read in
     rw (p.1, p.2) (record {
-      reads = record {
-        known = behind_number _ c.args.version count _ _ _ _ number.read (keys_stop _ c.args.version count _ _ _ (λ u. []) _
-            (part_stops c.args.version 0 taken taken many count _ _ _ _ (λ u. []) _ _ (omega arith) (omega arith) read (as_batch_fails c.args.version taken many _ _ _ _ _ piece.reads.known)));
-        takes = piece_stops _ _ _ _ c.args.version count taken many _ _ number (omega arith) c.loop-taken.invariant.takes piece.reads.takes piece.reads.known;
-        counts = search rules;
-      };
+      known = behind_number _ c.args.version count _ _ _ _ number.read (keys_stop _ c.args.version count _ _ _ (λ u. []) _
+          (part_stops c.args.version 0 taken taken many count _ _ _ _ (λ u. []) _ _ (omega arith) (omega arith) read (as_batch_fails c.args.version taken many _ _ _ _ _ piece.reads.known)));
+      takes = piece_stops _ _ _ _ c.args.version count taken many _ _ number (omega arith) c.loop-taken.invariant.takes piece.reads.takes piece.reads.known;
+      counts = search rules;
       memory = λ _. Reads-begins is_silent _ _ (header_behind c.args.version) (λ (h : Header). h) _ header;
       tested = λ failed. good_cut (header_behind c.args.version) _ _ _ (record { version = c.args.version; count = count }) header
           (cut_later c.args.version 0 taken taken many count _ _ _ _ (omega arith) (omega arith) read (piece.tested (search failed)));
@@ -77,11 +77,9 @@ returns-in_default-clause-list g c =
     let number : NumberRead _ _ count = record { read = c.in_ok-count.ensures.known; taken = c.in_ok-count.ensures.takes } in
     let header = header_of c.args.version _ _ count number.read in
     record {
-      reads = record {
-        known = search rules;
-        takes = memory_stops _ _ _ count (taken + many) number (omega arith) (takes_both _ _ _ (8 * taken) (8 * many) (8 * (taken + many)) c.loop-taken.invariant.takes c.in_ok-piece.ensures.reads.takes (omega arith));
-        counts = search rules;
-      };
+      known = search rules;
+      takes = memory_stops _ _ _ count (taken + many) number (omega arith) (takes_both _ _ _ (8 * taken) (8 * many) (8 * (taken + many)) c.loop-taken.invariant.takes c.in_ok-piece.ensures.reads.takes (omega arith));
+      counts = search rules;
       memory = λ _. Reads-begins is_silent _ _ (header_behind c.args.version) (λ (h : Header). h) _ header;
       tested = search rules;
       tested_too = λ _. good_front (header_behind c.args.version) _ _ _ (record { version = c.args.version; count = count }) (taken + many) _ header (omega arith)
@@ -97,11 +95,9 @@ returns-in_err-read_end-clause-list g c =
     let all : c.loop-taken.taken ≡ count = omega arith in
     let keys = as_many _ _ _ _ _ _ _ all c.loop-taken.invariant.read in
     rw (p.1, p.2) (record {
-      reads = record {
-        known = behind_number _ c.args.version count _ _ _ _ number.read (end_stops _ c.args.version count _ _ _ _ keys _ _ _ end.known);
-        takes = bounds.end_stops _ _ _ _ count _ _ number end.no_memory (takes_fewer _ _ (8 * c.loop-taken.taken) (8 * count) c.loop-taken.invariant.takes (omega (arith, all))) end.takes end.known;
-        counts = search rules;
-      };
+      known = behind_number _ c.args.version count _ _ _ _ number.read (end_stops _ c.args.version count _ _ _ _ keys _ _ _ end.known);
+      takes = bounds.end_stops _ _ _ _ count _ _ number end.no_memory (takes_fewer _ _ (8 * c.loop-taken.taken) (8 * count) c.loop-taken.invariant.takes (omega (arith, all))) end.takes end.known;
+      counts = search rules;
       memory = search rules;
       tested = λ _. good_whole (header_behind c.args.version) _ _ _ _ (record { version = c.args.version; count = count }) 1 _ (header_of c.args.version _ _ count number.read) keys end.takes;
       tested_too = search rules;
@@ -114,11 +110,9 @@ returns-clause-list g c =
     let end = c.in_ok-read_end.ensures in
     let all : c.loop-taken.taken ≡ count = omega arith in
     record {
-      reads = record {
-        known = behind_number _ c.args.version count _ _ _ _ number.read (all_read _ c.args.version count _ _ _ _ (as_many _ _ _ _ _ _ _ all c.loop-taken.invariant.read) c.loop-taken.pieces refl end.known);
-        takes = all_taken _ _ _ _ count number (takes_fewer _ _ (8 * c.loop-taken.taken) (8 * count) c.loop-taken.invariant.takes (omega (arith, all))) end.takes;
-        counts = search rules;
-      };
+      known = behind_number _ c.args.version count _ _ _ _ number.read (all_read _ c.args.version count _ _ _ _ (as_many _ _ _ _ _ _ _ all c.loop-taken.invariant.read) c.loop-taken.pieces refl end.known);
+      takes = all_taken _ _ _ _ count number (takes_fewer _ _ (8 * c.loop-taken.taken) (8 * count) c.loop-taken.invariant.takes (omega (arith, all))) end.takes;
+      counts = search rules;
       memory = search rules;
       tested = search rules;
       tested_too = search rules;

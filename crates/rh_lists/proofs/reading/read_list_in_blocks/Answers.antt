@@ -75,7 +75,7 @@ returns-in_err-pieces g c =
     let taken : Consumes start mid four = subst (Consumes start mid) (take_all n four (omega (arith, len))) c.fill_front-count.ensures.bytes in
     let magic = magic_read four c.in-Some.version c.in-Some.ensures.some start mid taken in
     rw (p.1, p.2) (record {
-      known = file_fails four c.in-Some.version c.in-Some.ensures.some start mid _ _ c.in_err-pieces.field-0.0 taken c.in_err-pieces.ensures.list.reads.known;
+      known = file_fails four c.in-Some.version c.in-Some.ensures.some start mid _ _ c.in_err-pieces.field-0.0 taken c.in_err-pieces.ensures.list.known;
       text_read = search rules;
       keys_read = search rules;
       text_tested = search rules;
@@ -95,7 +95,7 @@ returns-in-Some g c =
     let len : length four ≡ 4 = search rules in
     let taken : Consumes start mid four = subst (Consumes start mid) (take_all n four (omega (arith, len))) c.fill_front-count.ensures.bytes in
     record {
-      known = file_ok four c.in-Some.version c.in-Some.ensures.some start mid _ _ c.in_ok-pieces.pieces c.of.result taken c.in_ok-pieces.ensures.list.reads.known c.of.ensures;
+      known = file_ok four c.in-Some.version c.in-Some.ensures.some start mid _ _ c.in_ok-pieces.pieces c.of.result taken c.in_ok-pieces.ensures.list.known c.of.ensures;
       text_read = search rules;
       keys_read = search rules;
       text_tested = search rules;
