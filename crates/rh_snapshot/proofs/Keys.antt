@@ -16,7 +16,7 @@ use Rattle.rh_layout.proofs.TestLemmas.{layout_decided, not_tested}
 use Rattle.rh_snapshot.specs.declared.version.Version.{Version}
 use Rattle.rh_snapshot.specs.declared.version.Version.TheVariants.{First, Second}
 use Rattle.rh_snapshot.specs.declared.header.Header.{Header}
-use Rattle.rh_snapshot.specs.Snapshot.{cell_of_first, cells_as, keys_written, Table, table_with}
+use Rattle.rh_snapshot.specs.Snapshot.{IsLaidOut, Table, cell_of_first, cells_as, keys_written, table_with}
 use Rattle.rh_snapshot.specs.Reading.{is_table}
 
 -- ---- values above the range
@@ -95,11 +95,6 @@ same_count Second numbers = refl
 
 -- ---- a table that was tested
 
-pub record IsGood (table : Table) : Type 0 where
-  pub layout : IsLayout table.bits table.cells
-  pub count : table.count ≡ set.len (keys_of table.cells)
-  pub free : set.len (keys_of table.cells) < 2 ^ table.bits
-
 pub record Tested (header : Header) (numbers : List ℕ) : Type 0 where
   pub count : count_by is_full numbers ≡ header.count
   pub free : header.count < 2 ^ header.bits
@@ -115,9 +110,9 @@ tested header numbers is =
       layout = (layout_decided header.bits (cells_as header.version numbers)).0 parts.1;
     }
 
-pub good : (header : Header) (numbers seal : List ℕ) (table : Table) → table ≡ table_with header numbers seal → is_table header numbers ≡ true → IsGood table
-good header numbers seal table is test =
+pub laid_out : (header : Header) (numbers seal : List ℕ) (table : Table) → table ≡ table_with header numbers seal → is_table header numbers ≡ true → IsLaidOut table
+laid_out header numbers seal table is test =
     let t = tested header numbers test in
     let cells = cells_as header.version numbers in
     let count : header.count ≡ set.len (keys_of cells) = sym t.count ∙ sym (same_count header.version numbers) ∙ count_of_layout cells header.bits (keys_of cells) t.layout in
-    subst IsGood (sym is) (record { layout = t.layout; count = count; free = subst (λ n. n < 2 ^ header.bits) count t.free })
+    subst IsLaidOut (sym is) (record { layout = t.layout; count = count; free = subst (λ n. n < 2 ^ header.bits) count t.free })

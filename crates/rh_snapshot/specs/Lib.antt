@@ -1,3 +1,4 @@
 pub mod Snapshot
 pub mod Reading
 pub mod Limits
+pub mod Parts

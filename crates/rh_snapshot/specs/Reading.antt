@@ -5,10 +5,8 @@ use Rattle.sha2.specs.Sha256.{sha256}
 use Rattle.rh_layout.specs.declared.limits.TheConstants.{MIN_BITS}
 use Rattle.rh_layout.specs.Key.{is_full}
 use Rattle.rh_layout.specs.Test.{layout_test}
-use Rattle.rh_bytes.specs.declared.counted.Counted.{Counted}
 use Rattle.rh_bytes.specs.Input as input
 use Rattle.rh_bytes.specs.Input.{◌>>=◌, bytes_at, number_at, with_head, end_at, AreAll, BeginsWith}
-use Rattle.rh_bytes.specs.Parts.{ReadsPart}
 use Rattle.rh_snapshot.specs.declared.version.Version.{Version}
 use Rattle.rh_snapshot.specs.declared.version.Version.TheVariants.{First, Second}
 use Rattle.rh_snapshot.specs.declared.header.Header.{Header}
@@ -98,10 +96,6 @@ SnapFails e said = input.Fails is_snap_silent e said
 
 abbrev pub ReadsSnap : {X Y : Type 0} → Option (List ℕ) → Option (List ℕ) → (List ℕ → Result (Y × List ℕ) SnapFault) → (X → Y) → Result X SnapFault → Type 0
 ReadsSnap old new reading view r = input.Reads is_snap_silent old new reading view r
-
--- a part of a snapshot was read
-abbrev pub ReadsSnapPart : {R X Y : Type 0} → (R → Option (List ℕ)) → (old new : Counted R) → (List ℕ → Result (Y × List ℕ) SnapFault) → (X → Y) → (most : ℕ) → Result X SnapFault → Type 0
-ReadsSnapPart bytes_of old new reading view most r = ReadsPart bytes_of is_snap_silent faults.Read faults.Memory old new reading view most r
 
 -- Known bytes are no snapshot, and this is the first fault in them.
 abbrev pub IsFirstSnapFault : Option (List ℕ) → SnapFault → Type 0

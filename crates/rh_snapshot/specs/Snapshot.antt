@@ -74,6 +74,12 @@ pub record Table : Type 0 where
   pub cells : List ℕ
   pub seal : List ℕ
 
+-- the cells are a layout with a free cell, and the count is that of their keys
+pub record IsLaidOut (table : Table) : Type 0 where
+  pub layout : IsLayout table.bits table.cells
+  pub count : table.count ≡ set.len (keys_of table.cells)
+  pub free : set.len (keys_of table.cells) < 2 ^ table.bits
+
 abbrev pub table_with : Header → (numbers seal : List ℕ) → Table
 table_with header numbers seal =
     record { bits = header.bits; count = header.count; cells = cells_as header.version numbers; seal = seal }

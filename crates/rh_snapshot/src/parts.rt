@@ -9,8 +9,9 @@ ghost use Rattle.rh_bytes.specs.Taking.{TakesAtMost};
 ghost use Rattle.rh_bytes.specs.Input.{always, bytes_at, eight_bytes, fault_of};
 ghost use Rattle.rh_snapshot.specs.Limits.{snap_header_taken, snap_magic_bytes, numbers_taken, seal_bytes};
 ghost use Rattle.rh_snapshot.specs.Snapshot.{text_of};
-ghost use Rattle.rh_snapshot.specs.Reading.{ReadsSnap, ReadsSnapPart};
-ghost use Rattle.rh_snapshot.specs.Reading.{snap_version_at, bits_at, snap_header_at, numbers_at};
+ghost use Rattle.rh_snapshot.specs.Parts.{ReadsSnapPart};
+ghost use Rattle.rh_snapshot.specs.Reading.{ReadsSnap, bits_at, numbers_at, snap_header_at};
+ghost use Rattle.rh_snapshot.specs.Reading.{snap_version_at};
 
 use crate::fault::SnapFault;
 use crate::header::Header;

@@ -1,13 +1,10 @@
 //! A whole snapshot, read and tested.
 
-ghost use Rattle.std.specs.Prelude.{◌≡◌, ◌<◌, ◌^◌, IfOk, IsErrOf};
-ghost use Rattle.std.specs.FinSet as set;
-ghost use Rattle.rh_layout.specs.Layout.{IsLayout, keys_of};
-ghost use Rattle.rh_bytes.specs.Counting.{CountsFault, inner_of};
-ghost use Rattle.rh_bytes.specs.Input.{fault_of};
-ghost use Rattle.rh_snapshot.specs.Limits.{TakesOfSnap};
-ghost use Rattle.rh_snapshot.specs.Reading.{BeginsWithSnapHeader, IsSnapReadFrom, ReadsSnap, file_table};
-ghost use Rattle.rh_snapshot.specs.Reading.{table_as};
+ghost use Rattle.std.specs.Prelude.{IfOk};
+ghost use Rattle.rh_bytes.specs.Counting.{inner_of};
+ghost use Rattle.rh_snapshot.specs.Parts.{ReadsSnapshot};
+ghost use Rattle.rh_snapshot.specs.Reading.{IsSnapReadFrom, table_as};
+ghost use Rattle.rh_snapshot.specs.Snapshot.{IsLaidOut};
 
 use crate::cells::table_in;
 use crate::fault::SnapFault;
@@ -22,19 +19,10 @@ use std::io::Read;
 /// bytes are tested as they come; the seal, then the cells and then the end are tested once the
 /// seal was read.
 pub fn read_snapshot<R: Read>(alloc: Global, reader: &mut Counted<R>) -> Result<Snapshot, SnapFault>
-    ensures known { ReadsSnap (R.remaining (inner_of reader.old))
-        (R.remaining (inner_of reader.new))
-        file_table table_as result }
+    ensures reads { ReadsSnapshot R.remaining reader.old reader.new result }
     ensures spelled { IfOk result (λ s. IsSnapReadFrom
         (R.remaining (inner_of reader.old)) (R.remaining (inner_of reader.new)) (table_as s)) }
-    ensures layout { IfOk result (λ s. IsLayout s.bits s.cells.items) }
-    ensures count { IfOk result (λ s. s.count ≡ set.len (keys_of s.cells.items)) }
-    ensures free { IfOk result (λ s. set.len (keys_of s.cells.items) < 2 ^ s.bits) }
-    ensures takes { TakesOfSnap (R.remaining (inner_of reader.old))
-        (R.remaining (inner_of reader.new)) (fault_of result) }
-    ensures counts { CountsFault SnapFault.Read reader.old reader.new result }
-    ensures memory { IsErrOf result SnapFault.Memory →
-        BeginsWithSnapHeader (R.remaining (inner_of reader.old)) }
+    ensures laid_out { IfOk result (λ s. IsLaidOut (table_as s)) }
 {
     let header = read_header(reader)?;
     let (numbers, digest) = read_numbers(alloc, reader, header)?;
