@@ -26,6 +26,7 @@ pub record ReadsList {R X Y : Type 0} (bytes_of : R → Option (List ℕ)) (old 
 -- n keys, of which the first has this index: where a failed read is told, those before it were tested. Want of memory is not told.
 pub record ReadsRun {R X : Type 0} (bytes_of : R → Option (List ℕ)) (old new : Counted R) (version : Version) (index n : ℕ) (view : X → List ℕ) (most : ℕ) (r : Result X KeyFault) : Type 0 where
   pub reads : ReadsList bytes_of old new (keys_at version index n) view most r
+  pub open reads use *
   pub tested : IsErrOf r Read → CutShort (bytes_of (inner_of old)) (bytes_of (inner_of new)) (keys_at version index n)
   pub no_memory : r ≢ Err Memory
 

@@ -59,6 +59,7 @@ answer_again (Failed e) = Err e
 -- An open stream puts its next keys at the front of the batch. Where none is left, it tests the end.
 pub record GivesBatch {R : Type 0} (bytes_of : R → Option (List ℕ)) (old new : KeyStream R) (batch : List ℕ) (r : Result ℕ KeyFault) : Type 0 where
   pub reads : ReadsList bytes_of (reader_of old) (reader_of new) (batch_at (version_of old) (taken_of old) (left_of old) (length batch)) (front_of batch) (batch_bytes (taken_of old) (left_of old) (length batch) (fault_of r)) r
+  pub open reads use *
   pub tested : IsErrOf r Read → 0 < left_of old → CutShort (bytes_of (inner_of (reader_of old))) (bytes_of (inner_of (reader_of new))) (batch_at (version_of old) (taken_of old) (left_of old) (length batch))
   pub many : IfOk r (λ n. n ≡ min (length batch) (left_of old))
   pub taken : IfOk r (λ n. taken_of new ≡ taken_of old + n)

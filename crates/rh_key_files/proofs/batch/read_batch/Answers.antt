@@ -18,7 +18,7 @@ returns-in_err-read_keys-clause-reads g c =
     let len : length c.read_keys.new.batch ≡ c.min-many.result = search rules in
     let whole : length (c.read_keys.new.batch ++ drop c.min-many.result c.args.batch.now) ≡ length c.args.batch.now = omega (arith, len, length-append c.read_keys.new.batch (drop c.min-many.result c.args.batch.now), length-drop c.min-many.result c.args.batch.now, c.min-many.ensures) in
     rw (p.1, p.2) (record {
-      known = keys_fail _ _ _ _ (length c.read_keys.new.batch) _ _ _ _ _ (search rules) (rw whole (len ∙ c.min-many.ensures)) c.in_err-read_keys.ensures.run.reads.known;
+      known = keys_fail _ _ _ _ (length c.read_keys.new.batch) _ _ _ _ _ (search rules) (rw whole (len ∙ c.min-many.ensures)) c.in_err-read_keys.ensures.run.known;
       takes = search rules;
       counts = search rules;
     })
@@ -28,7 +28,7 @@ returns-clause-reads g c =
     let len : length c.read_keys.new.batch ≡ c.min-many.result = search rules in
     let whole : length (c.read_keys.new.batch ++ drop c.min-many.result c.args.batch.now) ≡ length c.args.batch.now = omega (arith, len, length-append c.read_keys.new.batch (drop c.min-many.result c.args.batch.now), length-drop c.min-many.result c.args.batch.now, c.min-many.ensures) in
     record {
-      known = keys_come c.args.version c.args.index c.args.left _ c.min-many.result _ _ c.read_keys.new.batch (drop c.min-many.result c.args.batch.now) (search rules) (rw whole c.min-many.ensures) len c.in_ok-read_keys.ensures.run.reads.known;
+      known = keys_come c.args.version c.args.index c.args.left _ c.min-many.result _ _ c.read_keys.new.batch (drop c.min-many.result c.args.batch.now) (search rules) (rw whole c.min-many.ensures) len c.in_ok-read_keys.ensures.run.known;
       takes = search rules;
       counts = search rules;
     }

@@ -23,8 +23,8 @@ returns-in_err-read_part-clause-run g c =
     let within = part_inside done _ c.loop-done.batch c.read_part.new.keys c.loop-done.invariant.within in
     rw (p.1, p.2) (record {
       reads = record {
-        known = part_stops c.args.version c.args.index done (c.args.index + done) (length c.read_part.new.keys) _ _ _ _ (take done c.loop-done.batch) _ _ _ refl within c.loop-done.invariant.read part.reads.known;
-        takes = keys_stop _ c.args.version c.args.index done (c.args.index + done) (length c.read_part.new.keys) _ _ _ _ _ refl (omega (arith, len, c.min-many.ensures)) within c.loop-done.invariant.takes part.reads.takes part.reads.known;
+        known = part_stops c.args.version c.args.index done (c.args.index + done) (length c.read_part.new.keys) _ _ _ _ (take done c.loop-done.batch) _ _ _ refl within c.loop-done.invariant.read part.known;
+        takes = keys_stop _ c.args.version c.args.index done (c.args.index + done) (length c.read_part.new.keys) _ _ _ _ _ refl (omega (arith, len, c.min-many.ensures)) within c.loop-done.invariant.takes part.takes part.known;
         counts = search rules;
       };
       tested = λ failed. cut_later c.args.version c.args.index done (c.args.index + done) (length c.read_part.new.keys) _ _ _ _ (take done c.loop-done.batch) refl within c.loop-done.invariant.read (part.tested (search failed));
@@ -42,8 +42,8 @@ loop-done-preserved g c =
     let both : take now (put_mid done (now - done) batch keys) ≡ take done batch ++ keys = take-put_mid done (now - done) batch keys now later c.loop-done.invariant.within in
     record {
       within = omega (arith, len, part_inside done (now - done) batch keys c.loop-done.invariant.within);
-      read = part_goes_on c.args.version c.args.index done (c.args.index + done) (length keys) now _ _ _ (take done batch) keys _ refl later both c.loop-done.invariant.read c.in_ok-read_part.ensures.run.reads.known;
+      read = part_goes_on c.args.version c.args.index done (c.args.index + done) (length keys) now _ _ _ (take done batch) keys _ refl later both c.loop-done.invariant.read c.in_ok-read_part.ensures.run.known;
       in_range = rw both (All-append IsKey (take done batch) keys c.loop-done.invariant.in_range c.in_ok-read_part.ensures.in_range);
-      takes = takes_both _ _ _ (8 * done) (8 * length keys) _ c.loop-done.invariant.takes c.in_ok-read_part.ensures.run.reads.takes (omega (arith, later));
+      takes = takes_both _ _ _ (8 * done) (8 * length keys) _ c.loop-done.invariant.takes c.in_ok-read_part.ensures.run.takes (omega (arith, later));
       fine = search rules;
     }

@@ -47,8 +47,8 @@ returns-in_err-read_keys-clause-list g c =
     let many : length c.read_keys.new.batch ≡ header.count = search rules in
     let read : HeaderRead _ _ header.version (length c.read_keys.new.batch) = record { said = header.count; read = begun.known; same = many; taken = begun.takes } in
     rw (p.1, p.2) (record {
-      known = behind_header (λ v. v.items) header.version header.count _ _ _ _ begun.known (keys_stop (λ v. v.items) header.version header.count _ _ _ _ _ (as_many _ _ _ _ _ _ _ many keys.reads.known));
-      takes = file_stops_in_keys _ _ _ _ _ _ _ read keys.no_memory keys.reads.takes keys.reads.known;
+      known = behind_header (λ v. v.items) header.version header.count _ _ _ _ begun.known (keys_stop (λ v. v.items) header.version header.count _ _ _ _ _ (as_many _ _ _ _ _ _ _ many keys.known));
+      takes = file_stops_in_keys _ _ _ _ _ _ _ read keys.no_memory keys.takes keys.known;
       counts = search rules;
       memory = search rules;
       tested = λ failed. good_cut header_at _ _ _ header begun.known (as_many_cut header.version _ header.count _ _ many (keys.tested (search failed)));
@@ -63,10 +63,10 @@ returns-in_err-read_end-clause-list g c =
     let end = c.in_err-read_end.ensures in
     let many : length c.read_keys.new.batch ≡ header.count = search rules in
     let read : HeaderRead _ _ header.version (length c.read_keys.new.batch) = record { said = header.count; read = begun.known; same = many; taken = begun.takes } in
-    let keys = as_many _ _ _ _ _ _ _ many c.in_ok-read_keys.ensures.run.reads.known in
+    let keys = as_many _ _ _ _ _ _ _ many c.in_ok-read_keys.ensures.run.known in
     rw (p.1, p.2) (record {
       known = behind_header (λ v. v.items) header.version header.count _ _ _ _ begun.known (end_stops (λ v. v.items) header.version header.count _ _ _ c.read_keys.new.batch keys _ _ _ end.known);
-      takes = file_stops_at_end _ _ _ _ _ _ _ _ read end.no_memory c.in_ok-read_keys.ensures.run.reads.takes end.takes end.known;
+      takes = file_stops_at_end _ _ _ _ _ _ _ _ read end.no_memory c.in_ok-read_keys.ensures.run.takes end.takes end.known;
       counts = search rules;
       memory = search rules;
       tested = λ _. good_whole header_at _ _ _ _ header 1 c.read_keys.new.batch begun.known keys end.takes;
@@ -83,8 +83,8 @@ returns-clause-list g c =
     let items = with_items_is c.in-Ok.keys c.read_keys.new.batch (search rules) in
     record {
       known = behind_header (λ v. v.items) header.version header.count _ _ _ _ begun.known
-          (all_read (λ v. v.items) header.version header.count _ _ _ c.read_keys.new.batch (as_many _ _ _ _ _ _ _ many c.in_ok-read_keys.ensures.run.reads.known) (with_items c.in-Ok.keys c.read_keys.new.batch) items end.known);
-      takes = file_taken _ _ _ _ _ _ read c.in_ok-read_keys.ensures.run.reads.takes end.takes;
+          (all_read (λ v. v.items) header.version header.count _ _ _ c.read_keys.new.batch (as_many _ _ _ _ _ _ _ many c.in_ok-read_keys.ensures.run.known) (with_items c.in-Ok.keys c.read_keys.new.batch) items end.known);
+      takes = file_taken _ _ _ _ _ _ read c.in_ok-read_keys.ensures.run.takes end.takes;
       counts = search rules;
       memory = search rules;
       tested = search rules;
