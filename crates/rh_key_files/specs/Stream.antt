@@ -9,12 +9,13 @@ use Rattle.rh_key_files.specs.declared.header.Header.{Header}
 use Rattle.rh_key_files.specs.declared.stream.KeyStream.{KeyStream}
 use Rattle.rh_key_files.specs.declared.stream.State.{State}
 use Rattle.rh_key_files.specs.declared.stream.State.TheVariants.{Open, Ended, Failed}
-use Rattle.rh_bytes.specs.Counting.{inner_of}
+use Rattle.rh_bytes.specs.Counting.{failures_of, inner_of}
 use Rattle.rh_bytes.specs.Input.{◌>>=◌, fault_of}
-use Rattle.rh_key_files.specs.Limits.{batch_bytes}
+use Rattle.rh_bytes.specs.Taking.{TakesAtMost}
+use Rattle.rh_key_files.specs.Limits.{batch_bytes, header_bytes}
 use Rattle.rh_key_files.specs.Parts.{ReadsList}
 use Rattle.rh_key_files.specs.Reading.{CutShort, ReadsKeys, batch_at, front_of, header_at, keys_at, keys_ended}
-use Rattle.rh_key_files.specs.Source.{Coming, keys_in}
+use Rattle.rh_key_files.specs.Source.{Coming, ComesFrom, HasCount, keys_in}
 
 -- the reader that the stream took on loan
 abbrev pub reader_of : {R : Type 0} → KeyStream R → Counted R
@@ -102,3 +103,14 @@ abbrev pub left_in : State → ℕ → ℕ
 left_in Open n = n
 left_in Ended n = 0
 left_in (Failed e) n = 0
+
+-- ---- at the beginning
+
+-- The stream has all keys of these bytes to give, and took no more of them than a header.
+pub record IsOpened {R : Type 0} (bytes_of : R → Option (List ℕ)) (old : Counted R) (s : KeyStream R) : Type 0 where
+  pub coming : ComesFrom (bytes_of (inner_of old)) (coming_of bytes_of s)
+  pub count : HasCount (bytes_of (inner_of old)) (count_of s)
+  pub takes : TakesAtMost (bytes_of (inner_of old)) (bytes_of (inner_of (reader_of s))) header_bytes
+  pub none_taken : taken_of s ≡ 0
+  pub is_open : state_of s ≡ Open
+  pub fine : failures_of (reader_of s) ≡ failures_of old

@@ -6,10 +6,9 @@ ghost use Rattle.rh_bytes.specs.contracts.counted.Counted.{the_row};
 ghost use Rattle.rh_bytes.specs.Counting.{Rose, failures_of, inner_of};
 ghost use Rattle.rh_bytes.specs.Taking.{TakesAtMost};
 ghost use Rattle.rh_bytes.specs.Input.{fault_of};
-ghost use Rattle.rh_key_files.specs.Limits.{header_bytes, header_taken};
-ghost use Rattle.rh_key_files.specs.Source.{ComesFrom, FaultComes, HasCount, keys_of_file};
-ghost use Rattle.rh_key_files.specs.Stream.{ReadsHeader, reader_of, lender_of, taken_of, state_of};
-ghost use Rattle.rh_key_files.specs.Stream.{coming_of, count_of};
+ghost use Rattle.rh_key_files.specs.Limits.{header_taken};
+ghost use Rattle.rh_key_files.specs.Source.{FaultComes, keys_of_file};
+ghost use Rattle.rh_key_files.specs.Stream.{IsOpened, ReadsHeader, lender_of};
 
 use crate::fault::KeyFault;
 use crate::header::Header;
@@ -22,16 +21,9 @@ use std::io::Read;
 #[tactic(auto, using(crate::proofs::Coming::comes, crate::proofs::Coming::counts, crate::proofs::Coming::does_not_come))]
 pub fn open_keys<R: Read>(reader: &mut Counted<R>) -> Result<KeyStream<'_, R>, KeyFault>
     ensures header { ReadsHeader R.remaining (inner_of reader.old) result }
-    ensures coming { IfOk result (λ s.
-        ComesFrom (R.remaining (inner_of reader.old)) (coming_of R.remaining s)) }
-    ensures count { IfOk result (λ s. HasCount (R.remaining (inner_of reader.old)) (count_of s)) }
+    ensures opened { IfOk result (λ s. IsOpened R.remaining reader.old s) }
     ensures fault { IfErr result (λ e.
         FaultComes (option_map keys_of_file (R.remaining (inner_of reader.old))) e) }
-    ensures takes { IfOk result (λ s. TakesAtMost (R.remaining (inner_of reader.old))
-        (R.remaining (inner_of (reader_of s))) header_bytes) }
-    ensures none_taken { IfOk result (λ s. taken_of s ≡ 0) }
-    ensures open { IfOk result (λ s. state_of s ≡ State.Open) }
-    ensures fine { IfOk result (λ s. failures_of (reader_of s) ≡ failures_of reader.old) }
     ensures no_memory { IsErrOf result KeyFault.Memory → ⊥ }
 
     // The stream holds the reader; a refusal gives it back.
