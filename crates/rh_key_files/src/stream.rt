@@ -45,8 +45,8 @@ impl<R: Read> KeyStream<'_, R> {
     ghost use Rattle.rh_bytes.specs.Counting.{Rose, failures_of};
     ghost use Rattle.rh_key_files.specs.Limits.{NoReadFailed};
     ghost use Rattle.rh_bytes.specs.Input.{fault_of};
-    ghost use Rattle.rh_key_files.specs.Stream.{GivesBatch, StaysOver};
-    ghost use Rattle.rh_key_files.specs.Stream.{reader_of, lender_of, header_of, count_of, state_of};
+    ghost use Rattle.rh_key_files.specs.Stream.{GivesBatch, StaysOver, count_of, header_of};
+    ghost use Rattle.rh_key_files.specs.Stream.{lender_of, reader_of, state_of};
 
     /// The reader that it took on loan. It has failed where the stream told so.
     pub fn reader(&self) -> &Counted<R>
