@@ -3,6 +3,7 @@
 -- Reading: reading from a reader, one step after another.
 -- Parsed: bytes that spell what is read of them, and the other way round.
 -- Told: which faults a reading may tell.
+-- Many: numbers one after the other, each by a step.
 -- Parts: parts of a file, read one after the other.
 -- Taking: how many bytes calls take together.
 -- Spelled: bytes and the numbers that they spell.
@@ -17,3 +18,4 @@ pub mod Told
 pub mod Writing
 pub mod Filling
 pub mod Parts
+pub mod Many

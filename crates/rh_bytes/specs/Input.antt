@@ -1,6 +1,6 @@
 -- Reading bytes and numbers from left to right, up to the first fault. A step gives a value and the bytes after it. The faults
 -- are those of the file that is read.
-use Rattle.std.specs.Prelude.{◌≡◌, ◌≢◌, ℕ, Bool, true, false, ◌&&◌, nat_lt, nat_le, if◌then◌else◌, List, [], ◌∷◌, length, take, drop, Option, Some, None, Result, Ok, Err}
+use Rattle.std.specs.Prelude.{◌≡◌, ◌≢◌, ℕ, zero, suc, ◌+◌, Bool, true, false, ◌&&◌, nat_lt, nat_le, if◌then◌else◌, List, [], ◌∷◌, length, take, drop, Option, Some, None, Result, Ok, Err}
 use Rattle.std.specs.List.{list_all}
 use Rattle.std.specs.Int.{w64, from_be_bytes, to_be_bytes}
 
@@ -33,6 +33,12 @@ number_at short bytes = bytes_at short 8 bytes >>= number_in
 -- a list of numbers, with this one before it
 abbrev pub with_head : {E : Type 0} → ℕ → List ℕ × List ℕ → Result (List ℕ × List ℕ) E
 with_head n others = Ok (n ∷ others.0, others.1)
+
+-- n numbers one after the other, each by a step, of which the first has this index
+unfoldable pub many_at : {E : Type 0} → (step : ℕ → List ℕ → Result (ℕ × List ℕ) E) → (index n : ℕ) → List ℕ → Result (List ℕ × List ℕ) E
+many_at step index zero bytes = Ok ([], bytes)
+many_at step index (suc n) bytes =
+    step index bytes >>= (λ first. many_at step (index + 1) n first.1 >>= with_head first.0)
 
 -- nothing comes any more
 unfoldable pub end_at : {E : Type 0} → (long : E) → List ℕ → Result (List ℕ × List ℕ) E

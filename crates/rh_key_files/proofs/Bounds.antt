@@ -9,7 +9,7 @@ use Rattle.rh_key_files.specs.declared.fault.KeyFault.{KeyFault}
 use Rattle.rh_key_files.specs.declared.fault.KeyFault.TheVariants as faults
 use Rattle.rh_key_files.specs.declared.fault.KeyFault.TheVariants.{NotKeys, Short, TooMany, BadKey, Long}
 use Rattle.rh_key_files.specs.declared.header.Header.{Header}
-use Rattle.rh_bytes.specs.Input.{◌>>=◌, number_at, end_at, with_head}
+use Rattle.rh_bytes.specs.Input.{◌>>=◌, number_at, end_at, with_head, many_at}
 use Rattle.rh_key_files.specs.Reading.{KeysFail, ReadsKeys, few, count_at, is_key_in, in_range, key_at, keys_at, header_at}
 use Rattle.rh_bytes.specs.Taking.{TakesAtMost}
 use Rattle.rh_key_files.specs.Limits.{magic_bytes, header_bytes, header_taken, keys_taken, whole_bytes, most_bytes, file_bytes, count_in, count_said, TakesOfFile}
@@ -71,7 +71,7 @@ key_comes version index bytes =
     then_told (IsFrom index) (number_at Short bytes) (in_range version index) (number_told (IsFrom index) Short tt bytes) (test_comes version index)
 
 pub keys_come : (version : Version) (index n : ℕ) (bytes : List ℕ) → ComesFrom index (keys_at version index n bytes)
-unfolding keys_at
+unfolding many_at
 keys_come version index zero bytes = tt
 keys_come version index (suc n) bytes =
     then_told (IsFrom index) (key_at version index bytes) (λ first. keys_at version (index + 1) n first.1 >>= with_head first.0) (key_comes version index bytes)

@@ -8,13 +8,13 @@ use Rattle.rh_key_files.specs.declared.fault.KeyFault.TheVariants.{Long}
 use Rattle.rh_key_files.specs.declared.stream.State.{State}
 use Rattle.rh_key_files.specs.declared.stream.State.TheVariants.{Open, Ended, Failed}
 use Rattle.rh_key_files.specs.declared.header.Header.{Header}
-use Rattle.rh_bytes.specs.Input.{◌>>=◌, end_at}
-use Rattle.rh_key_files.specs.Reading.{KeysFail, ReadsKeys, count_in_header, front_of, header_at, keys_at, batch_at, after_header, keys_ended, file_keys, is_silent}
+use Rattle.rh_bytes.specs.Input.{◌>>=◌, end_at, many_at}
+use Rattle.rh_key_files.specs.Reading.{KeysFail, ReadsKeys, count_in_header, front_of, header_at, keys_at, batch_at, after_header, keys_ended, file_keys, is_silent, key_at}
 use Rattle.rh_key_files.specs.Source.{Gives, ComesFrom, FaultComes, HasCount, keys_in, keys_of_file, keys_then}
 use Rattle.rh_key_files.specs.Stream.{answer_again, coming_in, keys_to_end, state_after}
 use Rattle.rh_bytes.proofs.Reading.{Fails-so, Fails-then, with_front}
 use Rattle.rh_key_files.proofs.Next.{none_left, some_left}
-use Rattle.rh_key_files.proofs.Batches.{keys_at-add, and_next}
+use Rattle.rh_bytes.proofs.Many.{many_at-add, and_next}
 use Rattle.rh_bytes.proofs.Parsed.{then_ok, same_value}
 use Rattle.rh_key_files.proofs.Grammar.{keys_read}
 
@@ -31,9 +31,9 @@ keys_fail e r h = Fails-then is_silent e r (λ keys. Ok keys.0) h
 
 -- ---- the keys of a batch, and then the others
 
-in_two : (version : Version) (index left many : ℕ) (bytes : List ℕ) → many + (left - many) ≡ left → keys_at version index left bytes ≡ (keys_at version index many bytes >>= and_next version (index + many) (left - many))
+in_two : (version : Version) (index left many : ℕ) (bytes : List ℕ) → many + (left - many) ≡ left → keys_at version index left bytes ≡ (keys_at version index many bytes >>= and_next (key_at version) (index + many) (left - many))
 in_two version index left many bytes whole =
-    ap (λ n. keys_at version index n bytes) (sym whole) ∙ keys_at-add version index many (left - many) bytes
+    ap (λ n. keys_at version index n bytes) (sym whole) ∙ many_at-add (key_at version) index many (left - many) bytes
 
 end_last : (front keys : List ℕ) (r : Read) → keys_in (r >>= (λ end. Ok (front ++ keys, end.1))) ≡ keys_then front (keys_in (r >>= (λ end. Ok (keys, end.1))))
 end_last front keys (Ok p) = refl
@@ -44,20 +44,20 @@ front_first front (Ok p) = end_last front p.0 (end_at Long p.1)
 front_first front (Err e) = refl
 
 batch_fault : (version : Version) (index left room : ℕ) (bytes : List ℕ) (e : KeyFault) → KeysFail e (batch_at version index left room bytes) → KeysFail e (keys_to_end version index left bytes)
-unfolding keys_at
+unfolding many_at
 batch_fault version index zero room bytes e h =
     keys_fail e (end_at Long bytes >>= (λ end. Ok ([], end.1))) (Fails-then is_silent e (end_at Long bytes) (λ end. Ok ([], end.1)) (subst (KeysFail e) (none_left version index 0 room bytes refl) h))
 batch_fault version index (suc left) room bytes e h =
     let many : ℕ = min room (suc left) in
     let first : Read = keys_at version index many bytes in
-    let both : List ℕ × List ℕ → Read = and_next version (index + many) (suc left - many) in
+    let both : List ℕ × List ℕ → Read = and_next (key_at version) (index + many) (suc left - many) in
     let fails : KeysFail e first = subst (KeysFail e) (some_left version index (suc left) room many bytes (omega arith) refl) h in
     let whole : many + (suc left - many) ≡ suc left = omega arith in
     subst (λ r. KeysFail e (keys_in (r >>= keys_ended))) (sym (in_two version index (suc left) many bytes whole))
     (keys_fail e ((first >>= both) >>= keys_ended) (Fails-then is_silent e (first >>= both) keys_ended (Fails-then is_silent e first both fails)))
 
 no_batch : (version : Version) (index left room : ℕ) (bytes keys rest : List ℕ) → left ≡ 0 → batch_at version index left room bytes ≡ Ok (keys, rest) → keys_to_end version index left bytes ≡ Ok []
-unfolding keys_at
+unfolding many_at
 no_batch version index left room bytes keys rest none h =
     let end : end_at Long bytes ≡ Ok (keys, rest) = sym (none_left version index left room bytes none) ∙ h in
     ap (λ n. keys_to_end version index n bytes) none ∙ ap (λ (r : Read). keys_in (r >>= (λ end. Ok ([], end.1)))) end
@@ -66,7 +66,7 @@ one_batch : (version : Version) (index left room many : ℕ) (bytes keys rest : 
 one_batch version index left room many bytes keys rest some is h =
     let first : keys_at version index many bytes ≡ Ok (keys, rest) = sym (some_left version index left room many bytes some is) ∙ h in
     let whole : many + (left - many) ≡ left = omega (arith, is) in
-    ap (λ (r : Read). keys_in (r >>= keys_ended)) (in_two version index left many bytes whole ∙ ap (λ (r : Read). r >>= and_next version (index + many) (left - many)) first)
+    ap (λ (r : Read). keys_in (r >>= keys_ended)) (in_two version index left many bytes whole ∙ ap (λ (r : Read). r >>= and_next (key_at version) (index + many) (left - many)) first)
     ∙ front_first keys (keys_at version (index + many) (left - many) rest)
 
 -- ---- a stream

@@ -12,13 +12,13 @@ use Rattle.rh_layout.specs.declared.limits.TheConstants.{MAX_KEY}
 use Rattle.rh_key_files.specs.declared.version.Version.{Version}
 use Rattle.rh_key_files.specs.declared.fault.KeyFault.{KeyFault}
 use Rattle.rh_key_files.specs.declared.fault.KeyFault.TheVariants.{Short, BadKey}
-use Rattle.rh_bytes.specs.Input.{eight_bytes}
+use Rattle.rh_bytes.specs.Input.{eight_bytes, many_at}
 use Rattle.rh_key_files.specs.KeyFile.{least_key, spelled_keys}
 use Rattle.rh_bytes.specs.Input.{◌>>=◌, always, bytes_at, number_at, with_head}
 use Rattle.rh_key_files.specs.Reading.{ReadsKeys, is_key_in, is_refused, key_at, keys_at}
 use Rattle.rh_bytes.proofs.Spelled.{begins_not}
 use Rattle.rh_bytes.proofs.Reading.{with_front}
-use Rattle.rh_key_files.proofs.Batches.{and_next, keys_at-add}
+use Rattle.rh_bytes.proofs.Many.{and_next, many_at-add}
 use Rattle.rh_key_files.proofs.Grammar.{key_spelled}
 
 -- ---- the test
@@ -49,7 +49,7 @@ abbrev FitsEight : ℕ → Type 0
 FitsEight n = n < 2 ^ 64
 
 keys_spelled : (version : Version) (index : ℕ) (keys rest : List ℕ) → All FitsEight keys → keys_at version index (length keys) (spelled_keys keys ++ rest) ≡ unless_refused keys rest (position_from (is_refused version) index keys)
-unfolding keys_at
+unfolding many_at
 keys_spelled version index [] rest small = refl
 keys_spelled version index (k ∷ keys) rest small =
     let apart : spelled_keys (k ∷ keys) ++ rest ≡ eight_bytes k ++ (spelled_keys keys ++ rest) = append_assoc (eight_bytes k) (spelled_keys keys) rest in
@@ -94,14 +94,14 @@ filled_bytes part keys n front f =
 
 -- what the whole keys of the part are read to, and then the others
 filled_keys : (version : Version) (index : ℕ) (part keys : List ℕ) (n : ℕ) (front bytes rest : List ℕ) → IsFilled part keys n front → bytes ≡ take n part ++ rest
-    → keys_at version index (length keys) bytes ≡ (unless_refused front (half_key part n ++ rest) (position_from (is_refused version) index front) >>= and_next version (index + length front) (length keys - length front))
+    → keys_at version index (length keys) bytes ≡ (unless_refused front (half_key part n ++ rest) (position_from (is_refused version) index front) >>= and_next (key_at version) (index + length front) (length keys - length front))
 filled_keys version index part keys n front bytes rest f is =
     let few : length front ≤ length keys = omega (arith, ap length f.first, length-take (n / 8) keys) in
     let all : length front + (length keys - length front) ≡ length keys = omega arith in
     let apart : bytes ≡ spelled_keys front ++ (half_key part n ++ rest) = is ∙ ap (λ l. l ++ rest) (filled_bytes part keys n front f) ∙ append_assoc (spelled_keys front) (half_key part n) rest in
     let small : All FitsEight front = rw f.first (All-take FitsEight (n / 8) keys f.small) in
-    ap (λ m. keys_at version index m bytes) (sym all) ∙ keys_at-add version index (length front) (length keys - length front) bytes
-    ∙ ap (λ (r : Result (List ℕ × List ℕ) KeyFault). r >>= and_next version (index + length front) (length keys - length front)) (ap (keys_at version index (length front)) apart ∙ keys_spelled version index front (half_key part n ++ rest) small)
+    ap (λ m. keys_at version index m bytes) (sym all) ∙ many_at-add (key_at version) index (length front) (length keys - length front) bytes
+    ∙ ap (λ (r : Result (List ℕ × List ℕ) KeyFault). r >>= and_next (key_at version) (index + length front) (length keys - length front)) (ap (keys_at version index (length front)) apart ∙ keys_spelled version index front (half_key part n ++ rest) small)
 
 pub part_refused : {X : Type 0} (version : Version) (index : ℕ) (a b : Option (List ℕ)) (part keys : List ℕ) (n : ℕ) (front : List ℕ) (bad : ℕ) (v : X → List ℕ) → IsFilled part keys n front → Some bad ≡ position_from (is_refused version) index front → Consumes a b (take n part) → ReadsKeys a b (keys_at version index (length keys)) v (Err (BadKey bad))
 part_refused version index None b part keys n front bad v f refused h = tt
@@ -110,7 +110,7 @@ part_refused version index (Some x) (Some y) part keys n front bad v f refused h
 
 -- too few bytes for a key
 pub no_key : (version : Version) (index n : ℕ) (bytes : List ℕ) → 0 < n → length bytes < 8 → keys_at version index n bytes ≡ Err Short
-unfolding keys_at key_at number_at bytes_at
+unfolding many_at key_at number_at bytes_at
 no_key version index zero bytes some few = absurd (omega (arith, some))
 no_key version index (suc n) bytes some few = rw (begins_not 8 bytes few) refl
 

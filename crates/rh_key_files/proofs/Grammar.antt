@@ -1,8 +1,7 @@
 -- What is spelled as a key file is read to its keys, and what is read is spelled so.
-use Rattle.std.proofs.Common.{◌≡◌, ℕ, zero, suc, ◌+◌, ◌<◌, ◌≤◌, ◌^◌, true, List, [], ◌∷◌, ◌++◌, length, Ok, Err, inl, inr, refl, sym, ap, ◌∙◌, subst, arith, append_assoc, append-nil, length-append, ltb, leb}
+use Rattle.std.proofs.Common.{◌≡◌, ℕ, ◌<◌, ◌≤◌, ◌^◌, true, List, [], ◌∷◌, ◌++◌, length, Ok, Err, inl, inr, refl, sym, ap, ◌∙◌, subst, arith, append-nil, length-append, ltb, leb}
 use Rattle.std.proofs.lemmas.Bool.{cases_Bool, and_parts, and_from, ltb-false, leb-true, le-leb, le-ltb}
 use Rattle.std.specs.Prelude.{All}
-use Rattle.std.proofs.lemmas.List.Elements.{All-nil, All-cons, All-head, All-tail}
 use Rattle.std.specs.Str.{bytes_eq}
 use Rattle.std.proofs.lemmas.Slice.Eq.{bytes_eq-Decides}
 use Rattle.rh_layout.specs.declared.limits.TheConstants.{MAX_KEY, MAX_KEYS}
@@ -12,8 +11,9 @@ use Rattle.rh_key_files.specs.declared.fault.KeyFault.TheVariants.{NotKeys, Shor
 use Rattle.rh_key_files.specs.declared.header.Header.{Header}
 use Rattle.rh_bytes.specs.Input.{eight_bytes}
 use Rattle.rh_key_files.specs.KeyFile.{magic, least_key, IsKeyIn, spelled_keys, KeyFile, IsKeyFile, LongKeyFile, IsLongKeyFile}
-use Rattle.rh_bytes.specs.Input.{◌>>=◌, bytes_at, number_at, end_at, with_head}
+use Rattle.rh_bytes.specs.Input.{◌>>=◌, bytes_at, number_at, end_at}
 use Rattle.rh_key_files.specs.Reading.{named, version_at, few, count_at, with_count, after_version, header_at, is_key_in, in_range, key_at, keys_at, keys_ended, after_header, file_keys, keys_behind, long_file_keys}
+use Rattle.rh_bytes.proofs.Many.{Spells, many_given, many_read}
 use Rattle.rh_bytes.proofs.Parsed.{then_ok, same_value, same_rest, ok, bytes_read, number_read, end_read, bytes_given, number_given}
 
 -- ---- what is read is spelled so
@@ -77,31 +77,8 @@ key_read version index bytes p h =
       | inr other ↦ let got : Err (BadKey index) ≡ Ok p = rw other at s.2 in absurd cc
     ]
 
-pub record Spells (version : Version) (n : ℕ) (bytes : List ℕ) (p : List ℕ × List ℕ) : Type 0 where
-  pub whole : bytes ≡ spelled_keys p.0 ++ p.1
-  pub many : length p.0 ≡ n
-  pub fit : All (IsKeyIn version) p.0
-
-pub keys_read : (version : Version) (index n : ℕ) (bytes : List ℕ) (p : List ℕ × List ℕ) → keys_at version index n bytes ≡ Ok p → Spells version n bytes p
-unfolding keys_at
-keys_read version index zero bytes p h =
-    let none : [] ≡ p.0 = same_value ([], bytes) p h in
-    record {
-      whole = same_rest ([], bytes) p h ∙ ap (λ ks. spelled_keys ks ++ p.1) none;
-      many = ap length (sym none);
-      fit = subst (All (IsKeyIn version)) none (All-nil (IsKeyIn version));
-    }
-keys_read version index (suc n) bytes p h =
-    let s = then_ok (key_at version index bytes) (λ first. keys_at version (index + 1) n first.1 >>= with_head first.0) p h in
-    let t = then_ok (keys_at version (index + 1) n s.0.1) (with_head s.0.0) p s.2 in
-    let first = key_read version index bytes s.0 s.1 in
-    let others = keys_read version (index + 1) n s.0.1 t.0 t.1 in
-    let all : s.0.0 ∷ t.0.0 ≡ p.0 = same_value (s.0.0 ∷ t.0.0, t.0.1) p t.2 in
-    record {
-      whole = first.0 ∙ ap (λ l. eight_bytes s.0.0 ++ l) others.whole ∙ sym (append_assoc (eight_bytes s.0.0) (spelled_keys t.0.0) t.0.1) ∙ ap (λ ks. spelled_keys ks ++ t.0.1) all ∙ ap (λ l. spelled_keys p.0 ++ l) (same_rest (s.0.0 ∷ t.0.0, t.0.1) p t.2);
-      many = ap length (sym all) ∙ ap suc others.many;
-      fit = subst (All (IsKeyIn version)) all (All-cons (IsKeyIn version) s.0.0 t.0.0 first.1 others.fit);
-    }
+pub keys_read : (version : Version) (index n : ℕ) (bytes : List ℕ) (p : List ℕ × List ℕ) → keys_at version index n bytes ≡ Ok p → Spells (IsKeyIn version) n bytes p
+keys_read version index n bytes p h = many_read (key_at version) (IsKeyIn version) (key_read version) index n bytes p h
 
 pub file_read : (bytes : List ℕ) (p : List ℕ × List ℕ) → file_keys bytes ≡ Ok p → IsKeyFile bytes p.0 × (p.1 ≡ [])
 unfolding file_keys
@@ -166,13 +143,7 @@ key_given version index k rest fits =
     key_spelled version index k rest (omega (arith, fits.1)) ∙ rw test refl
 
 pub keys_given : (version : Version) (index : ℕ) (keys rest : List ℕ) → All (IsKeyIn version) keys → keys_at version index (length keys) (spelled_keys keys ++ rest) ≡ Ok (keys, rest)
-unfolding keys_at
-keys_given version index [] rest fit = refl
-keys_given version index (k ∷ keys) rest fit =
-    let first = key_given version index k (spelled_keys keys ++ rest) (All-head (IsKeyIn version) k keys fit) in
-    let others = keys_given version (index + 1) keys rest (All-tail (IsKeyIn version) k keys fit) in
-    let apart : spelled_keys (k ∷ keys) ++ rest ≡ eight_bytes k ++ (spelled_keys keys ++ rest) = append_assoc (eight_bytes k) (spelled_keys keys) rest in
-    ap (keys_at version index (suc (length keys))) apart ∙ ap (λ r. r >>= (λ first. keys_at version (index + 1) (length keys) first.1 >>= with_head first.0)) first ∙ ap (λ r. r >>= with_head k) others
+keys_given version index keys rest fit = many_given (key_at version) (IsKeyIn version) (key_given version) index keys rest fit
 
 no_more : (keys : List ℕ) → keys_ended (keys, []) ≡ Ok (keys, [])
 unfolding end_at

@@ -6,8 +6,8 @@ use Rattle.rh_key_files.specs.declared.version.Version.{Version}
 use Rattle.rh_key_files.specs.declared.fault.KeyFault.TheVariants.{Short}
 use Rattle.rh_key_files.specs.KeyFile.{spelled_keys}
 use Rattle.rh_bytes.specs.Input.{always}
-use Rattle.rh_key_files.specs.Reading.{CutShort, ReadsKeys, is_refused, keys_at}
-use Rattle.rh_key_files.proofs.Batches.{keys_at-add}
+use Rattle.rh_key_files.specs.Reading.{CutShort, ReadsKeys, is_refused, keys_at, key_at}
+use Rattle.rh_bytes.proofs.Many.{many_at-add}
 use Rattle.rh_key_files.proofs.Filled.{IsFilled, part_short}
 use Rattle.rh_key_files.proofs.Grammar.{keys_given, keys_read}
 
@@ -22,7 +22,7 @@ part_cut version index (Some x) (Some y) part keys n front f fine lt h =
 -- after keys that were read, and before more of them
 cut_within : (version : Version) (index done many more : ℕ) (front cut : List ℕ) → keys_at version index done (spelled_keys front ++ cut) ≡ Ok (front, cut) → keys_at version (index + done) many cut ≡ Err Short → keys_at version index (done + many + more) (spelled_keys front ++ cut) ≡ Err Short
 cut_within version index done many more front cut first later =
-    rw (keys_at-add version index (done + many) more (spelled_keys front ++ cut), keys_at-add version index done many (spelled_keys front ++ cut), first, later) refl
+    rw (many_at-add (key_at version) index (done + many) more (spelled_keys front ++ cut), many_at-add (key_at version) index done many (spelled_keys front ++ cut), first, later) refl
 
 pub cut_later : (version : Version) (index done at many all : ℕ) (a b c : Option (List ℕ)) (front : List ℕ) → at ≡ index + done → done + many ≤ all → ReadsKeys a b (keys_at version index done) (always {X = Unit {0}} front) (Ok tt) → CutShort b c (keys_at version at many) → CutShort a c (keys_at version index all)
 cut_later version index done at many all None b c front place within p q = tt

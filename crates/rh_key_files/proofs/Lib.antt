@@ -3,7 +3,6 @@
 -- Steps: the version that four bytes name.
 -- Filled: a part of a key file: the keys that its bytes spell, and their test.
 -- Interrupted: keys of which a failed read cut the rest off.
--- Batches: keys one after the other, and batches of keys one after the other.
 -- Next: the next batch, or the end.
 -- Blame: the reader of a stream that told a failed read.
 -- Coming: what is still to come of a stream of keys.
@@ -17,7 +16,6 @@
 -- Written: key files, written text by text.
 
 pub mod Steps
-pub mod Batches
 pub mod Filled
 pub mod Interrupted
 pub mod Decoded

@@ -6,22 +6,22 @@ use Rattle.rh_key_files.specs.declared.version.Version.TheVariants.{First, Secon
 use Rattle.rh_key_files.specs.declared.fault.KeyFault.{KeyFault}
 use Rattle.rh_key_files.specs.declared.fault.KeyFault.TheVariants.{NotKeys, Short}
 use Rattle.rh_key_files.specs.declared.header.Header.{Header}
-use Rattle.rh_bytes.specs.Input.{◌>>=◌, always, eight_bytes, number_at}
+use Rattle.rh_bytes.specs.Input.{◌>>=◌, always, eight_bytes, number_at, many_at}
 use Rattle.rh_bytes.specs.Taking.{TakesAtMost}
 use Rattle.rh_bytes.proofs.Parsed.{number_read, same_rest, same_value, then_ok}
 use Rattle.rh_bytes.proofs.Reading.{with_front}
 use Rattle.rh_bytes.proofs.Taking.{takes_fewer}
 use Rattle.rh_key_files.specs.KeyFile.{magic, spelled_keys}
 use Rattle.rh_key_files.specs.Limits.{header_bytes, header_taken, magic_bytes}
-use Rattle.rh_key_files.specs.Reading.{CutShort, IsGood, ReadsKeys, TakesGoodKeys, header_at, header_behind, keys_at, long_header_at, version_at, with_count}
-use Rattle.rh_key_files.proofs.Batches.{and_next, keys_at-add}
+use Rattle.rh_key_files.specs.Reading.{CutShort, IsGood, ReadsKeys, TakesGoodKeys, header_at, header_behind, keys_at, long_header_at, version_at, with_count, key_at}
+use Rattle.rh_bytes.proofs.Many.{and_next, many_at-add}
 use Rattle.rh_key_files.proofs.Filled.{no_key}
 use Rattle.rh_key_files.proofs.Grammar.{header_read, keys_given, keys_read, version_read}
 
 -- ---- good keys
 
 nothing_good : (version : Version) (index n : ℕ) → IsGood (keys_at version index n [])
-unfolding keys_at
+unfolding many_at
 nothing_good version index zero = tt
 nothing_good version index (suc n) = subst IsGood (sym (no_key version index (suc n) [] (omega arith) (omega arith))) tt
 
@@ -33,7 +33,7 @@ good_then front (Err e) good = absurd good
 -- keys that were read, before more of them
 front_good : (version : Version) (done more : ℕ) (front : List ℕ) → keys_at version 0 done (spelled_keys front ++ []) ≡ Ok (front, []) → IsGood (keys_at version 0 (done + more) (spelled_keys front ++ []))
 front_good version done more front first =
-    subst IsGood (sym (keys_at-add version 0 done more (spelled_keys front ++ []) ∙ ap (λ (r : Result (List ℕ × List ℕ) KeyFault). r >>= and_next version (0 + done) more) first))
+    subst IsGood (sym (many_at-add (key_at version) 0 done more (spelled_keys front ++ []) ∙ ap (λ (r : Result (List ℕ × List ℕ) KeyFault). r >>= and_next (key_at version) (0 + done) more) first))
     (good_then front (keys_at version (0 + done) more []) (nothing_good version (0 + done) more))
 
 -- ---- how long a header is

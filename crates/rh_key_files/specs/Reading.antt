@@ -1,5 +1,5 @@
 -- Reading a key file from left to right, up to the first fault. A step gives a value and the bytes after it.
-use Rattle.std.specs.Prelude.{◌≡◌, ℕ, zero, suc, ◌+◌, min, Bool, true, false, not, ◌&&◌, ◌==◌, nat_lt, nat_le, if◌then◌else◌, List, [], ◌++◌, take, Option, Some, None, Result, Ok, Err}
+use Rattle.std.specs.Prelude.{◌≡◌, ℕ, min, Bool, true, false, not, ◌&&◌, ◌==◌, nat_lt, nat_le, if◌then◌else◌, List, ◌++◌, take, Option, Some, None, Result, Ok, Err}
 use Rattle.std.specs.Str.{bytes_eq}
 use Rattle.rh_layout.specs.declared.limits.TheConstants.{MAX_KEY, MAX_KEYS}
 use Rattle.rh_key_files.specs.declared.version.Version.{Version}
@@ -9,7 +9,7 @@ use Rattle.rh_key_files.specs.declared.fault.KeyFault.{KeyFault}
 use Rattle.rh_key_files.specs.declared.fault.KeyFault.TheVariants as faults
 use Rattle.rh_key_files.specs.declared.fault.KeyFault.TheVariants.{NotKeys, Short, TooMany, BadKey, Long}
 use Rattle.rh_bytes.specs.Input as input
-use Rattle.rh_bytes.specs.Input.{◌>>=◌, bytes_at, number_at, with_head, end_at, AreAll, BeginsWith}
+use Rattle.rh_bytes.specs.Input.{◌>>=◌, bytes_at, number_at, many_at, end_at, AreAll, BeginsWith}
 use Rattle.rh_key_files.specs.KeyFile.{magic, least_key, IsKeyFile, IsLongKeyFile}
 
 -- the version whose magic the four bytes are
@@ -56,10 +56,8 @@ unfoldable pub key_at : Version → ℕ → List ℕ → Result (ℕ × List ℕ
 key_at version index bytes = number_at Short bytes >>= in_range version index
 
 -- n keys, of which the first has this index
-unfoldable pub keys_at : Version → ℕ → ℕ → List ℕ → Result (List ℕ × List ℕ) KeyFault
-keys_at version index zero bytes = Ok ([], bytes)
-keys_at version index (suc n) bytes =
-    key_at version index bytes >>= (λ first. keys_at version (index + 1) n first.1 >>= with_head first.0)
+abbrev pub keys_at : Version → ℕ → ℕ → List ℕ → Result (List ℕ × List ℕ) KeyFault
+keys_at version index n bytes = many_at (key_at version) index n bytes
 
 -- what a call with room for some keys gives, where so many are left
 unfoldable pub batch_at : Version → ℕ → ℕ → ℕ → List ℕ → Result (List ℕ × List ℕ) KeyFault
