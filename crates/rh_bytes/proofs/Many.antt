@@ -90,7 +90,7 @@ module _ {E : Type 0} (step : ℕ → List ℕ → Result (ℕ × List ℕ) E) w
         Reads-then silent a b b (step index) (λ first. many_at step (index + 1) 0 first.1 >>= with_head first.0) (λ (n : ℕ). n) (always {X = Unit {0}} (n ∷ [])) n (Ok tt) p
         (Reads-ok silent b (λ bytes. Ok (n ∷ [], bytes)) (always {X = Unit {0}} (n ∷ [])) tt (λ bytes. refl))
 
-    pub one_fails : (index : ℕ) (a b : Option (List ℕ)) (w : Unit {0} → List ℕ) (e : E) → Reads silent a b (step index) (λ (n : ℕ). n) (Err e) → Reads silent a b (many_at step index 1) w (Err e)
+    pub one_fails : {X : Type 0} (index : ℕ) (a b : Option (List ℕ)) (w : X → List ℕ) (e : E) → Reads silent a b (step index) (λ (n : ℕ). n) (Err e) → Reads silent a b (many_at step index 1) w (Err e)
     unfolding many_at
     one_fails index a b w e p = Reads-fails silent a b b (step index) (λ first. many_at step (index + 1) 0 first.1 >>= with_head first.0) (λ (n : ℕ). n) w e p
 
@@ -117,7 +117,7 @@ module _ {E : Type 0} (step : ℕ → List ℕ → Result (ℕ × List ℕ) E) w
         let h = subst (λ j. Got b c j many back) place q in
         rw (later, joined) (both_got index done many a b c front back p h)
 
-    pub more_fails : (index done at many all : ℕ) (a b c : Option (List ℕ)) (front : List ℕ) (v w : Unit {0} → List ℕ) (e : E) → at ≡ index + done → done + many ≤ all → Got a b index done front → Reads silent b c (many_at step at many) v (Err e) → Reads silent a c (many_at step index all) w (Err e)
+    pub more_fails : {X Y : Type 0} (index done at many all : ℕ) (a b c : Option (List ℕ)) (front : List ℕ) (v : X → List ℕ) (w : Y → List ℕ) (e : E) → at ≡ index + done → done + many ≤ all → Got a b index done front → Reads silent b c (many_at step at many) v (Err e) → Reads silent a c (many_at step index all) w (Err e)
     more_fails index done at many all a b c front v w e place within p q =
         let h = subst (λ j. Reads silent b c (many_at step j many) v (Err e)) place q in
         let whole : done + many + (all - (done + many)) ≡ all = omega arith in

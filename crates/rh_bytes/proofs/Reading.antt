@@ -54,6 +54,12 @@ module _ {E : Type 0} (silent : E → Bool) where
   read_from Spells (Some bytes) None f v x spelled h = absurd h
   read_from Spells (Some bytes) (Some rest) f v x spelled h = spelled bytes (v x, rest) h
 
+  -- the same value, which another view sees
+  pub Reads-seen : {W X Y : Type 0} (a b : Option (List ℕ)) (f : List ℕ → Result (Y × List ℕ) E) (v : W → Y) (w : X → Y) (x : W) (y : X) → v x ≡ w y → Reads silent a b f v (Ok x) → Reads silent a b f w (Ok y)
+  Reads-seen None b f v w x y same h = tt
+  Reads-seen (Some bytes) None f v w x y same h = absurd h
+  Reads-seen (Some bytes) (Some rest) f v w x y same h = h ∙ ap (λ z. Ok (z, rest)) same
+
   pub Reads-begins : {X Y : Type 0} (a b : Option (List ℕ)) (f : List ℕ → Result (Y × List ℕ) E) (v : X → Y) (x : X) → Reads silent a b f v (Ok x) → BeginsWith f a
   Reads-begins None b f v x h = tt
   Reads-begins (Some bytes) None f v x h = absurd h

@@ -8,7 +8,6 @@
 -- Coming: what is still to come of a stream of keys.
 -- Tested: keys that were taken behind a header, where a failed read or want of memory is told.
 -- Whole: a whole key file, read by its header or by the number behind its magic, its keys and its end.
--- BehindMagic: the keys of a piece, seen as those of a batch.
 -- Bounds: which faults come where, and how many bytes are taken before they are told.
 -- PieceBounds: how many bytes are taken of a key file of any number of keys, behind its magic.
 -- LongFile: a key file of any number of keys: its magic, and then what stands behind it.
@@ -23,7 +22,6 @@ pub mod Bounds
 pub mod Next
 pub mod Whole
 pub mod Tested
-pub mod BehindMagic
 pub mod PieceBounds
 pub mod LongFile
 pub mod Grammar

@@ -5,7 +5,7 @@ use Rattle.std.proofs.Math.Pow.{pow_mono}
 use Rattle.std.proofs.lemmas.Bool.{cases_Bool}
 use Rattle.rh_layout.specs.declared.limits.TheConstants.{MAX_BITS}
 use Rattle.rh_bytes.specs.Taking.{TakesAtMost}
-use Rattle.rh_bytes.specs.Input.{◌>>=◌, bytes_at, number_at, end_at, with_head}
+use Rattle.rh_bytes.specs.Input.{◌>>=◌, bytes_at, number_at, end_at, many_at, with_head}
 use Rattle.rh_bytes.proofs.Taking.{takes_of_unknown, takes_fewer, takes_then, takes_both}
 use Rattle.rh_bytes.proofs.Told.{then_told, bytes_told, number_told, end_told}
 use Rattle.rh_snapshot.specs.declared.version.Version.{Version}
@@ -14,7 +14,7 @@ use Rattle.rh_snapshot.specs.declared.header.Header.{Header}
 use Rattle.rh_snapshot.specs.declared.fault.SnapFault.{SnapFault}
 use Rattle.rh_snapshot.specs.declared.fault.SnapFault.TheVariants as faults
 use Rattle.rh_snapshot.specs.declared.fault.SnapFault.TheVariants.{NotSnapshot, Short, BadBits, Damaged, NotALayout, Long}
-use Rattle.rh_snapshot.specs.Reading.{SnapFails, ReadsSnap, are_bits, bits_in, bits_at, snap_header_at, numbers_at}
+use Rattle.rh_snapshot.specs.Reading.{SnapFails, ReadsSnap, are_bits, bits_in, bits_at, snap_header_at, numbers_at, nth_number}
 use Rattle.rh_snapshot.specs.Limits.{snap_magic_bytes, snap_header_bytes, seal_bytes, snap_header_taken, numbers_taken, sealed_bytes, whole_snap_bytes, snap_bytes, most_snap_bytes, cells_in, cells_said, TakesOfSnap}
 use Rattle.rh_snapshot.proofs.Whole.{HeaderRead}
 use Rattle.rh_snapshot.proofs.Grammar.{InRange, header_read}
@@ -69,12 +69,12 @@ header_stops_at_count (Some x) (Some y) (Some z) d e s t u h = header_taken_whol
 
 -- ---- what comes after it
 
-numbers_later : (n : ℕ) (bytes : List ℕ) → IfErr (numbers_at n bytes) IsLater
-unfolding numbers_at
-numbers_later zero bytes = tt
-numbers_later (suc n) bytes =
-    then_told IsLater (number_at Short bytes) (λ first. numbers_at n first.1 >>= with_head first.0) (number_later bytes)
-    (λ first. then_told IsLater (numbers_at n first.1) (with_head first.0) (numbers_later n first.1) (λ others. tt))
+many_later : (index n : ℕ) (bytes : List ℕ) → IfErr (many_at nth_number index n bytes) IsLater
+unfolding many_at
+many_later index zero bytes = tt
+many_later index (suc n) bytes =
+    then_told IsLater (number_at Short bytes) (λ first. many_at nth_number (index + 1) n first.1 >>= with_head first.0) (number_later bytes)
+    (λ first. then_told IsLater (many_at nth_number (index + 1) n first.1) (with_head first.0) (many_later (index + 1) n first.1) (λ others. tt))
 
 -- the bytes do not end
 abbrev IsLong : SnapFault → Type 0
@@ -140,7 +140,7 @@ file_stops_in_numbers v None b c header e h s t fails = of_unknown c (Some e)
 file_stops_in_numbers v (Some x) None c header e h s t fails = absurd h
 file_stops_in_numbers v (Some x) (Some y) c header e h s t fails =
     takes_within (Some x) (Some y) c header (snap_header_bytes + numbers_taken (2 ^ header.bits) (Some e)) (Some e) h (takes_then (Some x) (Some y) c snap_header_bytes (numbers_taken (2 ^ header.bits) (Some e)) s t)
-    (numbers_fit (2 ^ header.bits) e (numbers_at (2 ^ header.bits) y) (numbers_later (2 ^ header.bits) y) fails)
+    (numbers_fit (2 ^ header.bits) e (numbers_at (2 ^ header.bits) y) (many_later 0 (2 ^ header.bits) y) fails)
 
 pub takes_sealed : (a b c d : Option (List ℕ)) (n : ℕ) → TakesAtMost a b snap_header_bytes → TakesAtMost b c (8 * n) → TakesAtMost c d seal_bytes → TakesAtMost a d (sealed_bytes n)
 takes_sealed a b c d n s t u = takes_then a c d (snap_header_bytes + 8 * n) seal_bytes (takes_then a b c snap_header_bytes (8 * n) s t) u

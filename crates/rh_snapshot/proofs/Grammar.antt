@@ -1,11 +1,10 @@
 -- What is spelled as a snapshot is read to its table, and what is read is spelled so.
-use Rattle.std.proofs.Common.{◌≡◌, ℕ, zero, suc, ◌<◌, ◌≤◌, ◌^◌, true, List, [], ◌∷◌, ◌++◌, length, get_or, Ok, Err, inl, inr, refl, sym, ap, ◌∙◌, subst, arith, append_assoc, append-nil, leb}
+use Rattle.std.proofs.Common.{◌≡◌, ℕ, ◌<◌, ◌≤◌, ◌^◌, true, List, [], ◌∷◌, ◌++◌, length, get_or, Ok, Err, inl, inr, refl, sym, ap, ◌∙◌, subst, arith, append_assoc, append-nil, leb}
 use Rattle.std.proofs.lemmas.Bool.{cases_Bool, and_parts, and_from, leb-true, le-leb, eq-eqb, lt-ltb}
 use Rattle.std.proofs.lemmas.List.{get_or_default, length-map}
 use Rattle.std.proofs.lemmas.Slice.Eq.{bytes_eq-Decides}
 use Rattle.std.specs.Prelude.{All}
 use Rattle.std.specs.Str.{bytes_eq}
-use Rattle.std.proofs.lemmas.List.Elements.{All-head, All-tail}
 use Rattle.std.proofs.Math.Nat.{pow-le-pow_right}
 use Rattle.std.specs.FinSet as set
 use Rattle.sha2.specs.Sha256.{sha256}
@@ -15,14 +14,15 @@ use Rattle.rh_layout.specs.Layout.{IsLayout, keys_of}
 use Rattle.rh_layout.proofs.CountLemmas.{count_of_layout}
 use Rattle.rh_layout.proofs.TestLemmas.{layout_decided}
 use Rattle.rh_bytes.specs.Input.{eight_bytes}
-use Rattle.rh_bytes.specs.Input.{is_byte, ◌>>=◌, bytes_at, number_at, end_at, with_head}
+use Rattle.rh_bytes.specs.Input.{is_byte, ◌>>=◌, bytes_at, number_at, end_at}
+use Rattle.rh_bytes.proofs.Many.{many_given, many_read}
 use Rattle.rh_bytes.proofs.Parsed.{then_ok, same, same_value, same_rest, ok, bytes_read, number_read, end_read, bytes_given, number_given}
 use Rattle.rh_snapshot.specs.declared.version.Version.{Version}
 use Rattle.rh_snapshot.specs.declared.version.Version.TheVariants.{First, Second}
 use Rattle.rh_snapshot.specs.declared.header.Header.{Header}
 use Rattle.rh_snapshot.specs.declared.fault.SnapFault.TheVariants.{NotSnapshot, Short, BadBits, Damaged, NotALayout, Long}
 use Rattle.rh_snapshot.specs.Snapshot.{snap_magic, most_bits, cells_as, snap_header_of, spelled_header, spelled_numbers, text_of, snap_spelling, SnapshotFile, Table, table_with, table_of, SnapshotOf, IsSnapshot}
-use Rattle.rh_snapshot.specs.Reading.{snap_named, snap_version_at, are_bits, bits_in, bits_at, with_snap_count, after_bits, after_snap_version, snap_header_at, numbers_at, is_sealed, is_table, table_in, snap_ended, after_numbers, after_snap_header, file_table}
+use Rattle.rh_snapshot.specs.Reading.{snap_named, snap_version_at, are_bits, bits_in, bits_at, with_snap_count, after_bits, after_snap_version, snap_header_at, numbers_at, is_sealed, is_table, table_in, snap_ended, after_numbers, after_snap_header, file_table, nth_number}
 use Rattle.rh_snapshot.proofs.Seal.{seal_bytes}
 use Rattle.rh_snapshot.proofs.Whole.{is_good}
 use Rattle.rh_snapshot.proofs.Keys.{numbers_fit, same_keys, tested}
@@ -94,14 +94,7 @@ header_read bytes p h =
     )
 
 numbers_read : (n : ℕ) (bytes : List ℕ) (p : List ℕ × List ℕ) → numbers_at n bytes ≡ Ok p → bytes ≡ spelled_numbers p.0 ++ p.1
-unfolding numbers_at
-numbers_read zero bytes p h = same_rest ([], bytes) p h ∙ ap (λ ns. spelled_numbers ns ++ p.1) (same_value ([], bytes) p h)
-numbers_read (suc n) bytes p h =
-    let s = then_ok (number_at Short bytes) (λ first. numbers_at n first.1 >>= with_head first.0) p h in
-    let t = then_ok (numbers_at n s.0.1) (with_head s.0.0) p s.2 in
-    let all : s.0.0 ∷ t.0.0 ≡ p.0 = same_value (s.0.0 ∷ t.0.0, t.0.1) p t.2 in
-    number_read Short bytes s.0 s.1 ∙ ap (λ l. eight_bytes s.0.0 ++ l) (numbers_read n s.0.1 t.0 t.1) ∙ sym (append_assoc (eight_bytes s.0.0) (spelled_numbers t.0.0) t.0.1)
-    ∙ ap (λ ns. spelled_numbers ns ++ t.0.1) all ∙ ap (λ l. spelled_numbers p.0 ++ l) (same_rest (s.0.0 ∷ t.0.0, t.0.1) p t.2)
+numbers_read n bytes p h = (many_read nth_number (λ (n : ℕ). Unit {0}) (λ index bytes p h. (number_read Short bytes p h, tt)) 0 n bytes p h).whole
 
 record Passed (header : Header) (numbers seal : List ℕ) (table : Table) : Type 0 where
   sealed_so : sha256 (text_of header numbers) ≡ seal
@@ -196,13 +189,7 @@ abbrev Fits : ℕ → Type 0
 Fits n = n < 2 ^ 64
 
 numbers_given : (numbers rest : List ℕ) → All Fits numbers → numbers_at (length numbers) (spelled_numbers numbers ++ rest) ≡ Ok (numbers, rest)
-unfolding numbers_at
-numbers_given [] rest fit = refl
-numbers_given (n ∷ numbers) rest fit =
-    let first = number_given Short n (spelled_numbers numbers ++ rest) (All-head Fits n numbers fit) in
-    let others = numbers_given numbers rest (All-tail Fits n numbers fit) in
-    let apart : spelled_numbers (n ∷ numbers) ++ rest ≡ eight_bytes n ++ (spelled_numbers numbers ++ rest) = append_assoc (eight_bytes n) (spelled_numbers numbers) rest in
-    ap (numbers_at (suc (length numbers))) apart ∙ ap (λ r. r >>= (λ first. numbers_at (length numbers) first.1 >>= with_head first.0)) first ∙ ap (λ r. r >>= with_head n) others
+numbers_given numbers rest fit = many_given nth_number Fits (λ index n rest fits. number_given Short n rest fits) 0 numbers rest fit
 
 end_given : (table : Table) → snap_ended [] table ≡ Ok (table, [])
 unfolding end_at

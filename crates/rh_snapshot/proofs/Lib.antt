@@ -1,6 +1,6 @@
 -- A snapshot is read by steps, as a key file is, and what is so of the steps of both is shown in rh_bytes. Its numbers are
 -- hashed as they come, and then the seal is tested.
--- Numbers: numbers one after the other, and their hash.
+-- Numbers: the text of numbers, as one more of them is read.
 -- Keys: numbers of a file, and the cells and keys that they stand for.
 -- Seal: a seal is 32 bytes.
 -- Whole: a whole snapshot, read by its header, its numbers, its seal and its end.

@@ -1,12 +1,12 @@
 -- Reading a snapshot from left to right, up to the first fault. A step gives a value and the bytes after it.
-use Rattle.std.specs.Prelude.{ℕ, zero, suc, ◌^◌, Bool, true, false, ◌&&◌, ◌==◌, nat_lt, nat_le, if◌then◌else◌, List, [], slice_index, count_by, Option, Some, None, Result, Ok, Err}
+use Rattle.std.specs.Prelude.{ℕ, ◌^◌, Bool, true, false, ◌&&◌, ◌==◌, nat_lt, nat_le, if◌then◌else◌, List, slice_index, count_by, Option, Some, None, Result, Ok, Err}
 use Rattle.std.specs.Str.{bytes_eq}
 use Rattle.sha2.specs.Sha256.{sha256}
 use Rattle.rh_layout.specs.declared.limits.TheConstants.{MIN_BITS}
 use Rattle.rh_layout.specs.Key.{is_full}
 use Rattle.rh_layout.specs.Test.{layout_test}
 use Rattle.rh_bytes.specs.Input as input
-use Rattle.rh_bytes.specs.Input.{◌>>=◌, bytes_at, number_at, with_head, end_at, AreAll, BeginsWith}
+use Rattle.rh_bytes.specs.Input.{◌>>=◌, bytes_at, number_at, many_at, end_at, AreAll, BeginsWith}
 use Rattle.rh_snapshot.specs.declared.version.Version.{Version}
 use Rattle.rh_snapshot.specs.declared.version.Version.TheVariants.{First, Second}
 use Rattle.rh_snapshot.specs.declared.header.Header.{Header}
@@ -48,11 +48,13 @@ after_snap_version version = bits_at version.0 version.1 >>= after_bits version.
 unfoldable pub snap_header_at : List ℕ → Result (Header × List ℕ) SnapFault
 snap_header_at bytes = snap_version_at bytes >>= after_snap_version
 
+-- the number with this index
+abbrev pub nth_number : ℕ → List ℕ → Result (ℕ × List ℕ) SnapFault
+nth_number index bytes = number_at Short bytes
+
 -- so many numbers
-unfoldable pub numbers_at : ℕ → List ℕ → Result (List ℕ × List ℕ) SnapFault
-numbers_at zero bytes = Ok ([], bytes)
-numbers_at (suc n) bytes =
-    number_at Short bytes >>= (λ first. numbers_at n first.1 >>= with_head first.0)
+abbrev pub numbers_at : ℕ → List ℕ → Result (List ℕ × List ℕ) SnapFault
+numbers_at n bytes = many_at nth_number 0 n bytes
 
 abbrev pub is_sealed : Header → (numbers seal : List ℕ) → Bool
 is_sealed header numbers seal = bytes_eq (sha256 (text_of header numbers)) seal

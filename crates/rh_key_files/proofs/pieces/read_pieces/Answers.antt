@@ -2,13 +2,13 @@ use Rattle.std.proofs.Common.{rules, ◌≡◌, ◌*◌, ◌+◌, ◌-◌, min, 
 use Rattle.std.proofs.lemmas.List.Concat.{flat_map-append}
 use Rattle.std.proofs.lemmas.Result.{err_from_is_err_and}
 use Rattle.rh_bytes.proofs.Many.{more_fails, more_got, none_yet}
-use Rattle.rh_bytes.proofs.Reading.{Reads-begins}
+use Rattle.rh_bytes.proofs.Reading.{Reads-begins, Reads-seen}
 use Rattle.rh_key_files.specs.declared.header.Header.{Header}
 use Rattle.rh_bytes.proofs.Taking.{takes_both, takes_fewer, takes_nothing}
-use Rattle.rh_key_files.proofs.BehindMagic.{as_batch, as_batch_fails}
 use Rattle.rh_key_files.proofs.PieceBounds as bounds
 use Rattle.rh_key_files.proofs.PieceBounds.{NumberRead, all_taken, memory_stops, number_stops, piece_stops}
 use Rattle.rh_bytes.specs.Counting.{inner_of}
+use Rattle.rh_bytes.specs.Input.{always}
 use Rattle.rh_bytes.specs.declared.counted.Counted.{Counted}
 use Rattle.rh_key_files.specs.Reading.{header_behind, is_silent, key_at}
 use Rattle.rh_key_files.proofs.Interrupted.{cut_later}
@@ -44,7 +44,7 @@ returns-in_err-piece-clause-list g c =
     let header = header_of c.args.version _ _ count number.read in
     rw (p.1, p.2) (record {
       known = behind_number _ c.args.version count _ _ _ _ number.read (keys_stop _ c.args.version count _ _ _ (λ u. []) _
-          (more_fails (key_at c.args.version) is_silent 0 taken taken many count _ _ _ _ (λ u. []) _ _ (omega arith) (omega arith) read (as_batch_fails c.args.version taken many _ _ _ _ _ piece.reads.known)));
+          (more_fails (key_at c.args.version) is_silent 0 taken taken many count _ _ _ _ _ (λ u. []) _ (omega arith) (omega arith) read piece.reads.known));
       takes = piece_stops _ _ _ _ c.args.version count taken many _ _ number (omega arith) c.loop-taken.invariant.takes piece.reads.takes piece.reads.known;
       counts = search rules;
       memory = λ _. Reads-begins is_silent _ _ (header_behind c.args.version) (λ (h : Header). h) _ header;
@@ -62,7 +62,7 @@ loop-taken-preserved g c =
     let len : c.len.result ≡ many = search rules in
     record {
       within = omega (arith, len);
-      read = more_got (key_at c.args.version) is_silent 0 taken taken many _ _ _ _ _ piece.items _ (omega arith) (omega (arith, len)) (rw c.in-Ok.ensures.items (rw flat_map-append (rw append-nil refl))) c.loop-taken.invariant.read (as_batch c.args.version taken many _ _ (λ p. p.items) piece c.in_ok-piece.ensures.reads.known);
+      read = more_got (key_at c.args.version) is_silent 0 taken taken many _ _ _ _ _ piece.items _ (omega arith) (omega (arith, len)) (rw c.in-Ok.ensures.items (rw flat_map-append (rw append-nil refl))) c.loop-taken.invariant.read (Reads-seen is_silent _ _ _ (λ p. p.items) (always {X = Unit {0}} piece.items) piece tt refl c.in_ok-piece.ensures.reads.known);
       in_range = search rules;
       takes = takes_both _ _ _ (8 * taken) (8 * many) _ c.loop-taken.invariant.takes c.in_ok-piece.ensures.reads.takes (omega (arith, len));
       fine = search rules;
@@ -83,7 +83,7 @@ returns-in_default-clause-list g c =
       memory = λ _. Reads-begins is_silent _ _ (header_behind c.args.version) (λ (h : Header). h) _ header;
       tested = search rules;
       tested_too = λ _. good_front (header_behind c.args.version) _ _ _ (record { version = c.args.version; count = count }) (taken + many) _ header (omega arith)
-          (more_got (key_at c.args.version) is_silent 0 taken taken many (taken + many) _ _ _ _ piece.items _ (omega arith) refl refl c.loop-taken.invariant.read (as_batch c.args.version taken many _ _ (λ p. p.items) piece c.in_ok-piece.ensures.reads.known));
+          (more_got (key_at c.args.version) is_silent 0 taken taken many (taken + many) _ _ _ _ piece.items _ (omega arith) refl refl c.loop-taken.invariant.read (Reads-seen is_silent _ _ _ (λ p. p.items) (always {X = Unit {0}} piece.items) piece tt refl c.in_ok-piece.ensures.reads.known));
     }
 
 pub returns-in_err-read_end-clause-list : goal.returns-in_err-read_end-clause-list
