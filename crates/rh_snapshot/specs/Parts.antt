@@ -10,6 +10,7 @@ use Rattle.rh_snapshot.specs.declared.snapshot.Snapshot.{Snapshot}
 use Rattle.rh_snapshot.specs.Limits.{TakesOfSnap}
 use Rattle.rh_snapshot.specs.Reading.{BeginsWithSnapHeader, ReadsSnap, file_table, is_snap_silent, table_as}
 
+-- a part of it
 abbrev pub ReadsSnapPart : {R X Y : Type 0} → (R → Option (List ℕ)) → (old new : Counted R) → (List ℕ → Result (Y × List ℕ) SnapFault) → (X → Y) → (most : ℕ) → Result X SnapFault → Type 0
 ReadsSnapPart bytes_of old new reading view most r = ReadsPart bytes_of is_snap_silent Read Memory old new reading view most r
 
