@@ -11,7 +11,7 @@ ghost use Rattle.rh_worker.specs.Worker.{HasNoRoom};
 use rh_layout::Entry;
 use rh_ledger::Kind;
 use rh_shared::{Seat, Table};
-use rh_threads::{Tried, try_key};
+use rh_threads::{Task, Tried};
 use std::sync::Wait;
 
 /// Inserts, removes or looks up a key, and answers whether it was added, removed or found; none
@@ -46,7 +46,13 @@ pub fn do_key<R: Wait>(
         × (own_acts_of (view_of seat.new) ≡ own_acts_of (view_of seat.old))) }
 {
     for _ in rt.forever() {
-        match try_key(rt, table, seat, bits, kind, key, seen, news, entries) {
+        let task = Task {
+            rt,
+            table,
+            kind,
+            key,
+        };
+        match task.try_key(seat, seen, news, entries) {
             Tried::Done(told) => return Some(told),
             Tried::Spent => return None,
             Tried::Again | Tried::Longer => {}

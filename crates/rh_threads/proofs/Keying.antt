@@ -28,12 +28,14 @@ use Rattle.rh_run.specs.Known.{KnowsHeld}
 use Rattle.rh_run.specs.Laws.{furthered}
 use Rattle.rh_run.specs.Run.{Progress, ProgressInvariant}
 use Rattle.rh_run.proofs.Stepping.{act_done, none_done, opened_more, opened_same, told_done}
-use Rattle.rh_shared.specs.Rests.{IsRested}
-use Rattle.rh_swaps.specs.Swaps.{HasGivenUp, IsSeen, RestSpec}
+use Rattle.rh_shared.specs.Rests.{IsRested, StaysAtRest}
+use Rattle.rh_swaps.specs.Swaps.{HasGivenUp, IsSeen, RestSpec, Swaps}
 use Rattle.rh_swaps.specs.Swaps.{HasReadCell as WasRead}
 use Rattle.rh_swaps.specs.Swaps.{HasNoRoom as HadNoRoom}
 use Rattle.rh_shared.specs.Seats.{IsSame}
+use Rattle.rh_swaps.specs.declared.swapping.Outcome.{Outcome}
 use Rattle.rh_shared.specs.declared.seat.Seat.{Seat}
+use Rattle.rh_shared.specs.declared.table.Table.{Table}
 use Rattle.rh_worker.specs.Deciding.{Decides}
 use Rattle.rh_worker.specs.declared.deciding.Decision.TheVariants.{Done}
 use Rattle.rh_worker.specs.Reading.{HasScanned, IsToldAnew, seen_back}
@@ -87,51 +89,55 @@ orderly_more v next d o rest is opened number = record {
 
 -- ---- one call after the other
 
-pub same_first : (s : Seat) → IsSame s s
-same_first s = record { sits = record { table = refl; id = refl; worker = refl; count = refl }; placed = refl }
+pub same_first : {s : Seat} → IsSame s s
+same_first = record { sits = record { table = refl; id = refl; worker = refl; count = refl }; placed = refl }
 
-pub same_on : (s t u : Seat) → IsSame s t → IsSame t u → IsSame s u
-same_on s t u a b = record {
+pub same_on : {s t u : Seat} → IsSame s t → IsSame t u → IsSame s u
+same_on a b = record {
   sits = record { table = b.table ∙ a.table; id = b.id ∙ a.id; worker = b.worker ∙ a.worker; count = b.count ∙ a.count };
   placed = b.placed ∙ a.placed;
 }
 
+pub stays_on : {t : Table} {s u w : Seat} → IsSame s u → StaysAtRest t u w → StaysAtRest t s w
+stays_on a b = record { same = same_on a b.same; rests = b.rests }
+
 furthers_on : (z : Shape) (kind : Kind) (k : ℕ) (u v w : View) (answer : Option Bool) → Furthers z kind k u v None → Furthers z kind k v w answer → Furthers z kind k u w answer
 furthers_on z kind k u v w answer a b p among is = b p among (a p among is)
 
-pub undone_first : (z : Shape) (kind : Kind) (k : ℕ) (v : View) → IsUndone z kind k v v
-undone_first z kind k v = record { own = refl; since = []; reads = refl; claims = refl; opening = refl; furthers = λ p among is. is }
+pub undone_first : {z : Shape} {kind : Kind} {k : ℕ} {v : View} → IsUndone z kind k v v
+undone_first = record { own = refl; since = []; reads = refl; claims = refl; opening = refl; furthers = λ p among is. is }
 
-pub undone_on : (z : Shape) (kind : Kind) (k : ℕ) (u v w : View) → IsUndone z kind k u v → IsUndone z kind k v w → IsUndone z kind k u w
-undone_on z kind k u v w a b = record {
-  own = b.own ∙ a.own;
-  since = b.since ++ a.since;
-  reads = b.reads ∙ ap (λ (l : List Kept). b.since ++ l) a.reads ∙ sym (append_assoc b.since a.since (kept_of z u));
-  claims = b.claims ∙ a.claims;
-  opening = b.opening ∙ a.opening;
-  furthers = furthers_on z kind k u v w None a.furthers b.furthers;
-}
+module _ {z : Shape} {kind : Kind} {k : ℕ} {u v w : View} (a : IsUndone z kind k u v) where
+  pub undone_on : IsUndone z kind k v w → IsUndone z kind k u w
+  undone_on b = record {
+    own = b.own ∙ a.own;
+    since = b.since ++ a.since;
+    reads = b.reads ∙ ap (λ (l : List Kept). b.since ++ l) a.reads ∙ sym (append_assoc b.since a.since (kept_of z u));
+    claims = b.claims ∙ a.claims;
+    opening = b.opening ∙ a.opening;
+    furthers = furthers_on z kind k u v w None a.furthers b.furthers;
+  }
 
-pub done_on : (z : Shape) (kind : Kind) (k : ℕ) (u v w : View) (told : Bool) → IsUndone z kind k u v → IsDoneSo z kind k v w told → IsDoneSo z kind k u w told
-done_on z kind k u v w told a b = record {
-  claims = b.claims ∙ a.claims;
-  opening = b.opening ∙ a.opening;
-  furthers = furthers_on z kind k u v w (Some told) a.furthers b.furthers;
-  so = ⊎_elim
-      (λ act. inl record { act = act.act; own = act.own ∙ ap (λ l. l ++ act.act ∷ []) a.own; does = act.does })
-      (λ read. inr record {
-        own = read.own ∙ a.own;
-        tells = record {
-          seen = read.tells.seen;
-          read = record {
-            since = read.tells.read.since ++ a.since;
-            reads = read.tells.read.reads ∙ ap (λ (l : List Kept). seen_back z k read.tells.seen (length read.tells.seen) ++ l)
-                (ap (λ (l : List Kept). read.tells.read.since ++ l) a.reads ∙ sym (append_assoc read.tells.read.since a.since (kept_of z u)));
+  pub done_on : {told : Bool} → IsDoneSo z kind k v w told → IsDoneSo z kind k u w told
+  done_on {told} b = record {
+    claims = b.claims ∙ a.claims;
+    opening = b.opening ∙ a.opening;
+    furthers = furthers_on z kind k u v w (Some told) a.furthers b.furthers;
+    so = ⊎_elim
+        (λ act. inl record { act = act.act; own = act.own ∙ ap (λ l. l ++ act.act ∷ []) a.own; does = act.does })
+        (λ read. inr record {
+          own = read.own ∙ a.own;
+          tells = record {
+            seen = read.tells.seen;
+            read = record {
+              since = read.tells.read.since ++ a.since;
+              reads = read.tells.read.reads ∙ ap (λ (l : List Kept). seen_back z k read.tells.seen (length read.tells.seen) ++ l)
+                  (ap (λ (l : List Kept). read.tells.read.since ++ l) a.reads ∙ sym (append_assoc read.tells.read.since a.since (kept_of z u)));
+            };
+            tells = read.tells.tells;
           };
-          tells = read.tells.tells;
-        };
-      }) b.so;
-}
+        }) b.so;
+  }
 
 -- what is told where the cells that were read decide
 pub scan_tells : (z : Shape) (kind : Kind) (k : ℕ) (before : List Kept) (next : View) (now : List ℕ) (n : ℕ) (entries : List Entry) (told : Bool) → n ≤ length now → length now ≤ cell_count z
@@ -158,8 +164,9 @@ one_value seen n value within is values p less = ⊎_elim
     (same_nat p n)
 
 -- the key is done where what was read tells it
-pub done_told : (z : Shape) (kind : Kind) (k : ℕ) (v next : View) (told : Bool) → IsUndone z kind k v next → IsToldAnew z (kept_of z v) next kind k told → IsTold kind z.bits (kept_of z next) k told → IsDoneSo z kind k v next told
-done_told z kind k v next told u anew tells = record {
+pub done_told : {z : Shape} {kind : Kind} {k : ℕ} {v next : View} {told : Bool} → IsUndone z kind k v next → IsToldAnew z (kept_of z v) next kind k told → IsTold kind z.bits (kept_of z next) k told
+    → IsDoneSo z kind k v next told
+done_told {z} {kind} {k} {v} {next} {told} u anew tells = record {
   claims = u.claims;
   opening = u.opening;
   furthers = λ p among is.
@@ -170,7 +177,7 @@ done_told z kind k v next told u anew tells = record {
 
 -- ---- a cell is read
 
-module _ (z : Shape) (kind : Kind) (k : ℕ) (v next : View) (rest : IsRested v) (rests : IsRested next) where
+module _ {z : Shape} {kind : Kind} {k : ℕ} {v next : View} (rest : IsRested v) (rests : IsRested next) where
   -- where no descriptor was opened
   undone : made next ≡ made v → (since : List Kept) → kept_of z next ≡ since ++ kept_of z v → next.side.claims ≡ v.side.claims → next.opening ≡ v.opening
       → next.opened ≡ v.opened → next.next_number ≡ v.next_number → IsUndone z kind k v next
@@ -188,8 +195,8 @@ module _ (z : Shape) (kind : Kind) (k : ℕ) (v next : View) (rest : IsRested v)
         (opened_same kind z (record p { view = v }) next is orderly held stay opened);
   }
 
-  pub undone_read : (c : ℕ) (seen : Option ℕ) → c < cell_count z → made next ≡ made v → WasRead z c v next seen → IsUndone z kind k v next
-  undone_read c seen inside same h = of seen h.seen_is
+  pub undone_read : {c : ℕ} {seen : Option ℕ} → c < cell_count z → made next ≡ made v → WasRead z c v next seen → IsUndone z kind k v next
+  undone_read {c} {seen} inside same h = of seen h.seen_is
     where
       of : (s : Option ℕ) → IsSeen z c v next s → IsUndone z kind k v next
       of None q = undone same [] (kept_alike z v next q.0) h.claims h.opening h.opened h.next_number
@@ -197,13 +204,13 @@ module _ (z : Shape) (kind : Kind) (k : ℕ) (v next : View) (rest : IsRested v)
 
   -- ---- several cells are swapped, in an act that does the key
 
-  module _ (es : List Entry) (changes : Bool) (does : Does kind z.bits k changes (act_of es)) (reads : next.side.reads ≡ v.side.reads) (claims : next.side.claims ≡ v.side.claims) (opening : next.opening ≡ v.opening) where
-    module _ (e : Ended) (is : RestSpec es v next e) (p : Progress) (among : Contains p.keys k) (so_far : ProgressInvariant z kind (record p { view = v })) where
+  module _ (es : List Entry) (changes : Bool) (does : Does kind z.bits k changes (act_of es)) {o : Outcome} (s : Swaps z es v next o) where
+    module _ {e : Ended} (is : RestSpec es v next e) (p : Progress) (among : Contains p.keys k) (so_far : ProgressInvariant z kind (record p { view = v })) where
       orderly : Orderly next
       orderly = orderly_more v next (next_own v es) so_far.orderly rests refl is.opened is.next_number
 
       stay : (r : Kept) → Contains (kept_of z v) r → Contains (kept_of z next) r
-      stay r h = subst (λ (l : List Kept). Contains l r) (sym (kept_alike z v next reads)) h
+      stay r h = subst (λ (l : List Kept). Contains l r) (sym (kept_alike z v next s.reads)) h
 
       held : KnowsHeld next.side next.worker
       held = knows_held next rests
@@ -216,28 +223,28 @@ module _ (z : Shape) (kind : Kind) (k : ℕ) (v next : View) (rest : IsRested v)
       done_so more = act_done kind z (record p { view = v }) next so_far orderly held stay k changes (act_of es) (own_more v next (next_own v es) rest rests more) does
           (opened_more kind z (record p { view = v }) next so_far orderly held stay k among (next_own v es) changes is.opened does)
 
-    pub swap_failed : (e : Ended) → RestSpec es v next e → made next ≡ made v → IsUndone z kind k v next
-    swap_failed e is same = record {
+    pub swap_failed : {e : Ended} → RestSpec es v next e → made next ≡ made v → IsUndone z kind k v next
+    swap_failed is same = record {
       own = own_same v next rest rests same;
       since = [];
-      reads = kept_alike z v next reads;
-      claims = claims;
-      opening = opening;
-      furthers = λ p among so_far. failed_on e is p among so_far same;
+      reads = kept_alike z v next s.reads;
+      claims = s.claims;
+      opening = s.opening;
+      furthers = λ p among so_far. failed_on is p among so_far same;
     }
 
-    pub swap_done : (e : Ended) → RestSpec es v next e → made next ≡ next_own v es ∷ made v → IsDoneSo z kind k v next changes
-    swap_done e is more = record {
-      claims = claims;
-      opening = opening;
-      furthers = λ p among so_far. done_so e is p among so_far more;
+    pub swap_done : {e : Ended} → RestSpec es v next e → made next ≡ next_own v es ∷ made v → IsDoneSo z kind k v next changes
+    swap_done is more = record {
+      claims = s.claims;
+      opening = s.opening;
+      furthers = λ p among so_far. done_so is p among so_far more;
       so = inl record { act = act_of es; own = own_more v next (next_own v es) rest rests more; does = does };
     }
 
     pub swap_given_up : HadNoRoom z v next → HasGivenUp es v next → made next ≡ made v → IsUndone z kind k v next × HasNoRoom z next
     swap_given_up room up same = ⊎_elim
-        (λ (none : (next.opened ≡ v.opened) × (next.next_number ≡ v.next_number)). (undone same [] (kept_alike z v next reads) claims opening none.0 none.1, still room (omega (arith, none.1))))
-        (λ (is : RestSpec es v next ended.Withdrawn). (swap_failed ended.Withdrawn is same, still room (let n = is.next_number in omega (arith, n)))) up
+        (λ (none : (next.opened ≡ v.opened) × (next.next_number ≡ v.next_number)). (undone same [] (kept_alike z v next s.reads) s.claims s.opening none.0 none.1, still room (omega (arith, none.1))))
+        (λ (is : RestSpec es v next ended.Withdrawn). (swap_failed is same, still room (let n = is.next_number in omega (arith, n)))) up
       where
         still : HadNoRoom z v next → v.next_number ≤ next.next_number → HasNoRoom z next
         still had less = ⊎_elim (λ (d : z.rooms.descriptors ≤ v.next_number). inr (omega (arith, d, less))) (λ m. inl m) had

@@ -1,6 +1,7 @@
 -- Room for what a worker sees of the table.
-use Rattle.std.specs.Prelude.{◌≡◌, ℕ, ◌^◌, ◌<◌, ◌≤◌, length}
+use Rattle.std.specs.Prelude.{◌≡◌, ℕ, ◌^◌, ◌<◌, ◌≤◌, length, List}
 use Rattle.std.specs.Vec.{vec_capacity}
+use Rattle.rh_layout.specs.declared.entry.Entry.{Entry}
 use Rattle.rh_threads.specs.declared.buffer.Buffer.{Buffer}
 
 -- room for each cell of the table
@@ -9,11 +10,16 @@ pub record HasCapacity (b : ℕ) (r : Buffer) : Type 0 where
   pub news : 2 ^ b ≤ vec_capacity r.news
   pub entries : 2 ^ b ≤ vec_capacity r.entries
 
--- and some of it is in use, as much for the one as for the others
+-- room for some cells of the table: for what they hold, and as much for what they are to hold and for the entries
+pub record IsRoom (b : ℕ) (seen news : List ℕ) (entries : List Entry) : Type 0 where
+  pub few : length seen ≤ 2 ^ b
+  pub as_many_news : length news ≡ length seen
+  pub as_many_entries : length entries ≡ length seen
+
+-- and some of it is in use
 pub record HasBufferRoom (b : ℕ) (r : Buffer) : Type 0 where
   pub capacity : HasCapacity b r
   pub open capacity use *
   pub some : 0 < length r.seen.items
-  pub few : length r.seen.items ≤ 2 ^ b
-  pub as_many_news : length r.news.items ≡ length r.seen.items
-  pub as_many_entries : length r.entries.items ≡ length r.seen.items
+  pub room : IsRoom b r.seen.items r.news.items r.entries.items
+  pub open room use *

@@ -17,6 +17,7 @@ use Rattle.rh_run.specs.Run.{Progress, ProgressInvariant}
 use Rattle.rh_worker.specs.Deciding.{IsLeftOpenBy, IsPlan}
 use Rattle.rh_worker.specs.Reading.{HasScanned, IsToldAnew}
 use Rattle.rh_worker.specs.Worker.{HasNoRoom}
+use Rattle.rh_threads.specs.declared.key.Task.{Task}
 use Rattle.rh_threads.specs.declared.key.Scanned.{Scanned}
 use Rattle.rh_threads.specs.declared.key.Scanned.TheVariants as scanned
 use Rattle.rh_threads.specs.declared.key.Tried.{Tried}
@@ -61,20 +62,6 @@ pub record IsUndone (z : Shape) (kind : Kind) (k : ℕ) (v next : View) : Type 0
   pub opening : next.opening ≡ v.opening
   pub furthers : Furthers z kind k v next None
 
--- so many cells were read in turn from the key's home on, and they do not decide
-pub record LeavesOpen (z : Shape) (kind : Kind) (k count : ℕ) (v next : View) : Type 0 where
-  pub seen : List ℕ
-  pub long : length seen ≡ count
-  pub read : HasScanned z (kept_of z v) next k seen count
-  pub open_by : IsLeftOpenBy kind z.bits k seen []
-
--- what a scan leads to, with room for so many cells
-abbrev pub ScanSpec : Shape → Kind → (k room : ℕ) → (v next : View) → List Entry → Scanned → Type 0
-ScanSpec z kind k room v next entries (scanned.Done told) = IsToldAnew z (kept_of z v) next kind k told × IsTold kind z.bits (kept_of z next) k told
-ScanSpec z kind k room v next entries (scanned.Acts p) = IsPlan kind z.bits k entries p
-ScanSpec z kind k room v next entries scanned.Longer = LeavesOpen z kind k room v next
-ScanSpec z kind k room v next entries scanned.Spent = z.rooms.marks ≤ next.marks_used
-
 -- it did the key, as one of those that it has to do
 pub record IsDoneSo (z : Shape) (kind : Kind) (k : ℕ) (v next : View) (told : Bool) : Type 0 where
   pub claims : next.side.claims ≡ v.side.claims
@@ -82,9 +69,43 @@ pub record IsDoneSo (z : Shape) (kind : Kind) (k : ℕ) (v next : View) (told : 
   pub furthers : Furthers z kind k v next (Some told)
   pub so : KeySpec z kind k v next told
 
+-- so many cells were read in turn from the key's home on, and they do not decide
+pub record LeavesOpen (z : Shape) (kind : Kind) (k count : ℕ) (v next : View) : Type 0 where
+  pub seen : List ℕ
+  pub long : length seen ≡ count
+  pub read : HasScanned z (kept_of z v) next k seen count
+  pub open_by : IsLeftOpenBy kind z.bits k seen []
+
+-- ---- a task
+
+abbrev pub IsUndoneYet : {R : Type 0} → Task R → (s then : Seat) → Type 0
+IsUndoneYet task s then = IsUndone task.table.now.shape task.kind task.key (view_of s) (view_of then)
+
+abbrev pub IsDoneNow : {R : Type 0} → Task R → (s then : Seat) → (told : Bool) → Type 0
+IsDoneNow task s then told = IsDoneSo task.table.now.shape task.kind task.key (view_of s) (view_of then) told
+
+-- what a scan leads to, with room for so many cells
+abbrev pub LeadsTo : Shape → Kind → (k room : ℕ) → (v next : View) → List Entry → Scanned → Type 0
+LeadsTo z kind k room v next entries (scanned.Done told) = IsToldAnew z (kept_of z v) next kind k told × IsTold kind z.bits (kept_of z next) k told
+LeadsTo z kind k room v next entries (scanned.Acts p) = IsPlan kind z.bits k entries p
+LeadsTo z kind k room v next entries scanned.Longer = LeavesOpen z kind k room v next
+LeadsTo z kind k room v next entries scanned.Spent = z.rooms.marks ≤ next.marks_used
+
+-- It opens no descriptor.
+pub record IsScannedSo {R : Type 0} (task : Task R) (room : ℕ) (s then : Seat) (entries : List Entry) (to : Scanned) : Type 0 where
+  pub undone : IsUndoneYet task s then
+  pub unopened : (view_of then).next_number ≡ (view_of s).next_number
+  pub leads : LeadsTo task.table.now.shape task.kind task.key room (view_of s) (view_of then) entries to
+
 -- What came of a try, with room for so many cells. Each that is made again has used up a number of a descriptor.
-abbrev pub IsTriedSo : Shape → Kind → (k room : ℕ) → (v next : View) → Tried → Type 0
-IsTriedSo z kind k room v next (tried.Done told) = IsDoneSo z kind k v next told
-IsTriedSo z kind k room v next tried.Again = IsUndone z kind k v next × (next.next_number ≡ suc v.next_number)
-IsTriedSo z kind k room v next tried.Longer = IsUndone z kind k v next × (next.next_number ≡ v.next_number) × LeavesOpen z kind k room v next
-IsTriedSo z kind k room v next tried.Spent = IsUndone z kind k v next × HasNoRoom z next
+abbrev pub IsTriedSo : {R : Type 0} → Task R → (room : ℕ) → (s then : Seat) → Tried → Type 0
+IsTriedSo task room s then (tried.Done told) = IsDoneNow task s then told
+IsTriedSo task room s then tried.Again = IsUndoneYet task s then × ((view_of then).next_number ≡ suc (view_of s).next_number)
+IsTriedSo task room s then tried.Longer = IsUndoneYet task s then × ((view_of then).next_number ≡ (view_of s).next_number)
+    × LeavesOpen task.table.now.shape task.kind task.key room (view_of s) (view_of then)
+IsTriedSo task room s then tried.Spent = IsUndoneYet task s then × HasNoRoom task.table.now.shape (view_of then)
+
+-- It is done, with this answer, or too little room is left for it.
+abbrev pub IsEndedSo : {R : Type 0} → Task R → (s then : Seat) → Option Bool → Type 0
+IsEndedSo task s then (Some told) = IsDoneNow task s then told
+IsEndedSo task s then None = IsUndoneYet task s then × HasNoRoom task.table.now.shape (view_of then)

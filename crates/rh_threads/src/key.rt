@@ -1,12 +1,10 @@
 //! One key, done by one worker at a table that others change too.
 
-ghost use Rattle.std.specs.Prelude.{◌≡◌, ◌↔◌, ◌^◌, ◌<◌, ◌≤◌, length, false};
+ghost use Rattle.std.specs.Prelude.{◌≡◌, ◌↔◌, ◌^◌, ◌<◌, false};
 ghost use Rattle.rh_layout.specs.Key.{IsBits, IsKey};
-ghost use Rattle.rh_shared.specs.Rests.{SeatRests, StaysAtRest};
-ghost use Rattle.rh_threads.specs.Keys.{IsTriedSo, IsUndone, ScanSpec};
 ghost use Rattle.rh_threads.specs.Scanning.{IsPassed};
-ghost use Rattle.rh_shared.specs.Seats.{view_of};
 
+use crate::buffer::Buffer;
 use rh_layout::{Entry, beats, home, key_in};
 use rh_ledger::Kind;
 use rh_probe::{cell_after, is_movable};
@@ -15,6 +13,16 @@ use rh_swaps::{Outcome, kcas, read};
 use rh_tagword::plain_value;
 use rh_worker::{Decision, Plan, decide};
 use std::sync::Wait;
+
+/// A key that a worker is to do, and the table at which it has its seat.
+#[derive(Drop)]
+pub struct Task<'a, R> {
+    pub rt: &'a R,
+    pub table: &'a Table,
+    pub kind: Kind,
+    pub key: u64,
+    ghost is_key: { IsKey key },
+}
 
 /// What came of a try.
 #[derive(Clone, Copy)]
@@ -27,40 +35,6 @@ pub enum Tried {
     Longer,
     /// Too little room is left in this round.
     Spent,
-}
-
-/// Scans from the key's home on, and swaps what the scan asks for.
-pub fn try_key<R: Wait>(
-    rt: &R,
-    table: &Table,
-    seat: &mut Seat,
-    bits: u32,
-    kind: Kind,
-    key: u64,
-    seen: &mut [u64],
-    news: &mut [u64],
-    entries: &mut [Entry],
-) -> Tried
-    requires rests { SeatRests table.now seat.old }
-    requires bits { table.now.shape.bits ≡ bits }
-    requires key { IsKey key }
-    requires room { length seen.old ≤ 2 ^ bits }
-    requires news { length news.old ≡ length seen.old }
-    requires entries { length entries.old ≡ length seen.old }
-    ensures stays { StaysAtRest table.now seat.old seat.new }
-    ensures tries { IsTriedSo table.now.shape kind key (length seen.old) (view_of seat.old)
-        (view_of seat.new) result }
-{
-    match scan(rt, table, seat, bits, kind, key, seen, news, entries) {
-        Scanned::Done(told) => Tried::Done(told),
-        Scanned::Acts(plan) => match kcas(rt, table, seat, &entries[..plan.entries]) {
-            Outcome::Done => Tried::Done(plan.changes),
-            Outcome::Failed { .. } => Tried::Again,
-            Outcome::Spent => Tried::Spent,
-        },
-        Scanned::Longer => Tried::Longer,
-        Scanned::Spent => Tried::Spent,
-    }
 }
 
 /// What a scan leads to.
@@ -76,51 +50,109 @@ enum Scanned {
     Spent,
 }
 
-/// Reads the cells from the key's home on, until they decide.
-#[inline(always)]
-fn scan<R: Wait>(
-    rt: &R,
-    table: &Table,
-    seat: &mut Seat,
-    bits: u32,
-    kind: Kind,
-    key: u64,
-    seen: &mut [u64],
-    news: &mut [u64],
-    entries: &mut [Entry],
-) -> Scanned
-    requires rests { SeatRests table.now seat.old }
-    requires bits { table.now.shape.bits ≡ bits }
-    requires key { IsKey key }
-    requires room { length seen.old ≤ 2 ^ bits }
-    requires news { length news.old ≡ length seen.old }
-    requires entries { length entries.old ≡ length seen.old }
-    ensures stays { StaysAtRest table.now seat.old seat.new }
-    ensures undone { IsUndone table.now.shape kind key (view_of seat.old) (view_of seat.new) }
-    ensures unopened { (view_of seat.new).next_number ≡ (view_of seat.old).next_number }
-    ensures scans { ScanSpec table.now.shape kind key (length seen.old) (view_of seat.old)
-        (view_of seat.new) entries.new result }
-{
-    let cells = table.shape.cells();
-    let first = home(bits, key);
-    let mut is_placed = false;
-    for count in 0..seen.len() {
-        let cell = cell_after(cells, first, count);
-        let Some(word) = read(rt, table, seat, cell) else {
-            return Scanned::Spent;
-        };
-        // (a read ends with a plain word)
-        let value = plain_value(word).unwrap();
-        seen[count] = value;
-        if may_decide(kind, bits, key, cell, value, is_placed) {
-            match decide(kind, bits, key, &seen[..count + 1], news, entries) {
-                Decision::Done(told) => return Scanned::Done(told),
-                Decision::Acts(plan) => return Scanned::Acts(plan),
-                Decision::More => is_placed = true,
+impl<R: Wait> Task<'_, R> {
+    ghost use Rattle.std.specs.Prelude.{length};
+    ghost use Rattle.rh_shared.specs.Rests.{SeatRests, StaysAtRest};
+    ghost use Rattle.rh_threads.specs.Buffer.{HasBufferRoom, IsRoom};
+    ghost use Rattle.rh_threads.specs.Keys.{IsEndedSo, IsScannedSo, IsTriedSo};
+
+    /// Tries until the key is done, and answers whether it was added, removed or found; none where
+    /// the worker has too little room left for it. More of the buffer is put to use where a scan
+    /// needs it.
+    pub(crate) fn do_in_buffer(&self, seat: &mut Seat, buffer: &mut Buffer) -> Option<bool>
+        requires rests { SeatRests self.now.table.now seat.old }
+        requires room { HasBufferRoom self.now.table.now.shape.bits buffer.old }
+        ensures stays { StaysAtRest self.now.table.now seat.old seat.new }
+        ensures room { HasBufferRoom self.now.table.now.shape.bits buffer.new }
+        ensures ends { IsEndedSo self.now seat.old seat.new result }
+    {
+        for _ in self.rt.forever() {
+            match self.try_in_buffer(seat, buffer) {
+                Tried::Done(told) => return Some(told),
+                Tried::Spent => return None,
+                Tried::Again => {}
+                Tried::Longer => buffer.use_more(self.table.shape.bits),
             }
         }
+        unreachable!()
     }
-    Scanned::Longer
+
+    /// A try, in as much of the buffer as is in use.
+    fn try_in_buffer(&self, seat: &mut Seat, buffer: &mut Buffer) -> Tried
+        requires rests { SeatRests self.now.table.now seat.old }
+        requires room { HasBufferRoom self.now.table.now.shape.bits buffer.old }
+        ensures stays { StaysAtRest self.now.table.now seat.old seat.new }
+        ensures room { HasBufferRoom self.now.table.now.shape.bits buffer.new }
+        ensures tries { IsTriedSo self.now (length buffer.old.seen.items) seat.old seat.new result }
+    {
+        let seen = buffer.seen.as_mut_slice();
+        let news = buffer.news.as_mut_slice();
+        self.try_key(seat, seen, news, buffer.entries.as_mut_slice())
+    }
+
+    /// Scans from the key's home on, and swaps what the scan asks for.
+    pub fn try_key(
+        &self,
+        seat: &mut Seat,
+        seen: &mut [u64],
+        news: &mut [u64],
+        entries: &mut [Entry],
+    ) -> Tried
+        requires rests { SeatRests self.now.table.now seat.old }
+        requires room { IsRoom self.now.table.now.shape.bits seen.old news.old entries.old }
+        ensures stays { StaysAtRest self.now.table.now seat.old seat.new }
+        ensures tries { IsTriedSo self.now (length seen.old) seat.old seat.new result }
+    {
+        match self.scan(seat, seen, news, entries) {
+            Scanned::Done(told) => Tried::Done(told),
+            Scanned::Acts(plan) => match kcas(self.rt, self.table, seat, &entries[..plan.entries]) {
+                Outcome::Done => Tried::Done(plan.changes),
+                Outcome::Failed { .. } => Tried::Again,
+                Outcome::Spent => Tried::Spent,
+            },
+            Scanned::Longer => Tried::Longer,
+            Scanned::Spent => Tried::Spent,
+        }
+    }
+
+    /// Reads the cells from the key's home on, until they decide.
+    #[inline(always)]
+    fn scan(
+        &self,
+        seat: &mut Seat,
+        seen: &mut [u64],
+        news: &mut [u64],
+        entries: &mut [Entry],
+    ) -> Scanned
+        requires rests { SeatRests self.now.table.now seat.old }
+        requires room { IsRoom self.now.table.now.shape.bits seen.old news.old entries.old }
+        ensures stays { StaysAtRest self.now.table.now seat.old seat.new }
+        ensures scans { IsScannedSo self.now (length seen.old) seat.old seat.new entries.new
+            result }
+    {
+        let Task { rt, table, kind, key } = *self;
+        let bits = table.shape.bits;
+        let cells = table.shape.cells();
+        let first = home(bits, key);
+        let mut is_placed = false;
+        for count in 0..seen.len() {
+            let cell = cell_after(cells, first, count);
+            let Some(word) = read(rt, table, seat, cell) else {
+                return Scanned::Spent;
+            };
+            // (a read ends with a plain word)
+            let value = plain_value(word).unwrap();
+            seen[count] = value;
+            if may_decide(kind, bits, key, cell, value, is_placed) {
+                match decide(kind, bits, key, &seen[..count + 1], news, entries) {
+                    Decision::Done(told) => return Scanned::Done(told),
+                    Decision::Acts(plan) => return Scanned::Acts(plan),
+                    Decision::More => is_placed = true,
+                }
+            }
+        }
+        Scanned::Longer
+    }
 }
 
 /// Whether the cells from the key's home to this one, which holds this, may decide where those

@@ -16,7 +16,7 @@
 //!   cells are as they were.
 //! - With any room for a worker that does for one key: where it is used up, a round more takes
 //!   place. No worker stops in a round before that but at the end of the list.
-//! - `try_key`, for the seat of one worker at rest: its own acts grew by just one, which does the
+//! - `Task::try_key`, for the seat of one worker at rest: its own acts grew by just one, which does the
 //!   key. Or they are as before and the cells that it read since, from the key's home on, tell the
 //!   answer. Or it is not done, and the own acts are as before: another worker came between, which
 //!   took a number of a descriptor; or as many cells as there is room for were read and decide
@@ -46,6 +46,6 @@ mod working_out;
 pub use crew::{AllStart, Refused, Starts};
 pub use fault::Fault;
 pub use gate::{Gate, OpenGate};
-pub use key::{Tried, try_key};
+pub use key::{Task, Tried};
 pub use threads::Threads;
 pub use working_out::{asked, changed, shape_of};

@@ -1,13 +1,12 @@
 use Rattle.std.proofs.Common.{◌≡◌, length}
-use Rattle.rh_shared.specs.Rests.{SeatRests}
-use Rattle.rh_shared.specs.Seats.{IsSame, view_of}
+use Rattle.rh_shared.specs.Rests.{StaysAtRest}
+use Rattle.rh_shared.specs.Seats.{view_of}
 use Rattle.rh_threads.specs.Keys.{IsUndone}
 use Rattle.rh_phase.proofs.key.do_key.Given as goal
 
 abbrev pub invariant-loop : goal.invariant-loop
 invariant-loop g l = record {
-  rests : SeatRests l.table l.seat;
-  same : IsSame l.fn.seat l.seat;
+  stays : StaysAtRest l.table l.fn.seat l.seat;
   undone : IsUndone l.table.shape l.kind l.key (view_of l.fn.seat) (view_of l.seat);
   seen : length l.seen ≡ length l.fn.seen;
   news : length l.news ≡ length l.fn.news;

@@ -21,14 +21,14 @@ loop-preserved g c =
     let key = slice_index keys n.position in
     record {
       rests = e.stays.rests;
-      same = same_on _ _ _ (same_on _ _ _ h.same next.stays.same) e.stays.same;
+      same = same_on (same_on h.same next.stays.same) e.stays.same;
       hand = record {
         room = subst (HasBufferRoom z.bits) (sym c.count.ensures.buffer) e.room;
         within = λ still. absurd (true≢false (sym still ∙ c.count.ensures.no_key));
-        claims = claims_on z n then (view_of c.next_key.new.seat) (view_of c.do_in_buffer.new.seat) next.hand.claims c.count.ensures.ended e.claims;
+        claims = claims_on z n then (view_of c.next_key.new.seat) (view_of c.do_in_buffer.new.seat) next.hand.claims c.count.ensures.ended e.ends.claims;
       };
       stands = λ past was. stands_done z keys past n then (view_of c.next_key.new.seat) (view_of c.do_in_buffer.new.seat) (next.stands past (h.stands past was)) key
-          (among keys n.position key (next.hand.within has) refl) refl c.count.ensures.kind e.claims e.opening has c.in-Some-do_in_buffer.told e.furthers
+          (among keys n.position key (next.hand.within has) refl) refl c.count.ensures.kind e.ends.claims e.ends.opening has c.in-Some-do_in_buffer.told e.ends.furthers
           c.count.ensures.no_key c.count.ensures.done c.count.ensures.changed c.count.ensures.found;
     }
 
@@ -40,7 +40,7 @@ returns-in-None-do_in_buffer-clause-hand g c =
     record {
       room = e.room;
       within = next.hand.within;
-      claims = claims_on c.args.table.now.shape n _ (view_of c.next_key.new.seat) (view_of c.do_in_buffer.new.seat) next.hand.claims refl e.claims;
+      claims = claims_on c.args.table.now.shape n _ (view_of c.next_key.new.seat) (view_of c.do_in_buffer.new.seat) next.hand.claims refl e.ends.0.claims;
     }
 
 pub returns-in-None-do_in_buffer-clause-stands : goal.returns-in-None-do_in_buffer-clause-stands
@@ -53,4 +53,4 @@ returns-in-None-do_in_buffer-clause-stands g c past was =
     let has : n.has_key ≡ true = c.if-not-next_key.ensures.has_key refl in
     let key = slice_index keys n.position in
     stands_left z keys past n _ (view_of c.next_key.new.seat) (view_of c.do_in_buffer.new.seat) (next.stands past (c.loop.invariant.stands past was)) key
-    (among keys n.position key (next.hand.within has) refl) refl refl e.claims e.opening has e.furthers (ap (λ (b : Bool). left_over b n.position) has) refl refl refl
+    (among keys n.position key (next.hand.within has) refl) refl refl e.ends.0.claims e.ends.0.opening has e.ends.0.furthers (ap (λ (b : Bool). left_over b n.position) has) refl refl refl
