@@ -11,7 +11,7 @@ ghost use Rattle.rh_runner.specs.Cells.{AreTheCells};
 
 use rh_ledger::{Kind, Tally};
 use rh_runner::PhaseFault;
-use rh_threads::{AllStart, Gate, Starts, asked, changed, shape_of};
+use rh_threads::{AllStart, Gate, Phase, Starts};
 use rh_words::Rooms;
 use std::alloc::Global;
 use std::sync::Wait;
@@ -103,8 +103,8 @@ pub fn change_with<R: Threads + Wait + Sync, G: Gate + Sync, S: Starts + Sync>(
     ensures allowed { OnOk result (AllMayStart (S.allows starts.now) 0 workers) }
     ensures no_thread { IsErrOf result PhaseFault.NoThread → 1 < workers }
 {
-    let shape = shape_of(bits, workers, rooms, keys);
-    Ok(changed(rt, alloc, shape, kind, cells, keys, gate, starts)?)
+    let phase = Phase::new(bits, workers, rooms, kind, keys);
+    Ok(phase.change(rt, alloc, cells, gate, starts)?)
 }
 
 /// `ask`, where some threads may not be started, and each worker has this room in a round.
@@ -128,6 +128,6 @@ pub fn ask_with<R: Threads + Wait + Sync, G: Gate + Sync, S: Starts + Sync>(
     ensures allowed { OnOk result (AllMayStart (S.allows starts.now) 0 workers) }
     ensures no_thread { IsErrOf result PhaseFault.NoThread → 1 < workers }
 {
-    let shape = shape_of(bits, workers, rooms, keys);
-    Ok(asked(rt, alloc, shape, cells, keys, gate, starts)?)
+    let phase = Phase::new(bits, workers, rooms, Kind::Ask, keys);
+    Ok(phase.ask(rt, alloc, cells, gate, starts)?)
 }

@@ -19,6 +19,7 @@ use Rattle.rh_acts.specs.Workers.{LeavesRoom}
 use Rattle.rh_acts.proofs.ActLemmas.{contains_none}
 use Rattle.rh_acts.proofs.FoldLemmas.{added_len, removed_len}
 use Rattle.rh_rule.specs.declared.rule.Sitter.{Sitter}
+use Rattle.rh_words.specs.declared.shape.Shape.{Shape}
 use Rattle.rh_words.specs.Parts.{cell_count}
 use Rattle.rh_words.specs.View.{new_view}
 use Rattle.rh_rule.specs.Seats.{InView, first_view, sitter}
@@ -33,7 +34,7 @@ use Rattle.rh_shared.specs.Crews.{HasAll, IsFresh, views_of}
 use Rattle.rh_threads.specs.Crew.{CanWork}
 use Rattle.rh_threads.specs.Hands.{HandStands, answer, left_over, progress_by}
 use Rattle.rh_threads.specs.Made.{AreNew, IsNew}
-use Rattle.rh_threads.specs.Rounds.{Comes, past_of, phase}
+use Rattle.rh_threads.specs.Rounds.{Comes, Setting, at_table, past_of}
 use Rattle.rh_threads.specs.declared.crew.Crew.{Crew}
 use Rattle.rh_threads.specs.declared.hand.Hand.{Hand}
 use Rattle.rh_threads.proofs.Ending.{at_or}
@@ -70,14 +71,17 @@ few_changed Ask b S keys small room changes = absurd (changes refl)
 
 -- ---- the start
 
-module _ (t : Table) (kind : Kind) (positions : ℕ) (cells keys : List ℕ) (c : Crew) (all : HasAll t c.seat) (fresh : InView IsFresh (views_of c.seat)) (views : views_of c.seat ≡ first_view t.shape (map plain_number cells)) (new : AreNew t.shape kind positions c.hands) (list : t.shape.keys ≡ length keys) (keys_are : All IsKey keys) where
-  view_is : (r : ℕ) (s : Sitter) → get_elem? (views_of c.seat) r ≡ some s → s ≡ sitter (new_view (map plain_number cells) r) []
-  view_is r s e = new_at (map plain_number cells) 0 t.shape.workers r s (subst (λ (l : List Sitter). get_elem? l r ≡ some s) views e) ∙ (λ i. sitter (new_view (map plain_number cells) (zero-add r i)) [])
+module _ (ph : Setting) (t : Table) (c : Crew) (shape_is : t.shape ≡ ph.shape) (all : HasAll t c.seat) (fresh : InView IsFresh (views_of c.seat)) (views : views_of c.seat ≡ first_view ph.shape (map plain_number ph.opening)) (hands : AreNew ph.shape ph.kind ph.positions c.hands) (list : ph.shape.keys ≡ length ph.keys) (keys_are : All IsKey ph.keys) where
+  new : AreNew t.shape ph.kind ph.positions c.hands
+  new = subst (λ (y : Shape). AreNew y ph.kind ph.positions c.hands) (sym shape_is) hands
 
-  new_hand : (r : ℕ) (h : Hand) → get_elem? c.hands r ≡ some h → IsNew t.shape kind positions h
-  new_hand r h at = subst (IsNew t.shape kind positions) (at_or c.hands r h h at) (new.each r h (there c.hands r h at))
+  view_is : (r : ℕ) (s : Sitter) → get_elem? (views_of c.seat) r ≡ some s → s ≡ sitter (new_view (map plain_number ph.opening) r) []
+  view_is r s e = new_at (map plain_number ph.opening) 0 t.shape.workers r s (subst (λ (l : List Sitter). get_elem? l r ≡ some s) (subst (λ (y : Shape). views_of c.seat ≡ first_view y (map plain_number ph.opening)) (sym shape_is) views) e) ∙ (λ i. sitter (new_view (map plain_number ph.opening) (zero-add r i)) [])
 
-  pub can_begin : CanWork t keys c
+  new_hand : (r : ℕ) (h : Hand) → get_elem? c.hands r ≡ some h → IsNew t.shape ph.kind ph.positions h
+  new_hand r h at = subst (IsNew t.shape ph.kind ph.positions) (at_or c.hands r h h at) (new.each r h (there c.hands r h at))
+
+  pub can_begin : CanWork t ph.keys c
   can_begin = record {
     crew = record {
       here = all_at t c.seat all;
@@ -90,26 +94,26 @@ module _ (t : Table) (kind : Kind) (positions : ℕ) (cells keys : List ℕ) (c 
           ended = λ ended. absurd (true≢false (sym ended ∙ n.to_claim));
         };
       };
-      list = list;
+      list = ap (λ (y : Shape). y.keys) shape_is ∙ list;
       keys_are = keys_are;
     };
     fresh = fresh;
   }
 
-  pub comes_first : length cells ≡ cell_count t.shape → Comes (phase t.shape kind cells keys positions) (views_of c.seat) c.hands
+  pub comes_first : length ph.opening ≡ cell_count ph.shape → Comes (at_table t ph.keys ph) (views_of c.seat) c.hands
   comes_first long = record {
-    words = map plain_number cells ++ replicate (row_total t.shape + 1) 0;
-    keep = new_view (map plain_number cells);
+    words = map plain_number ph.opening ++ replicate (row_total t.shape + 1) 0;
+    keep = new_view (map plain_number ph.opening);
     done = λ v. [];
     told = λ v. [];
     run = run;
     stands = λ r s h e f.
         let n = new_hand r h f in
         let less : r < t.shape.workers = let l = there c.hands r h f in let w = new.long in omega (arith, l, w) in
-        subst (λ (k : Sitter). HandStands t.shape keys (past_of positions run k.view.worker) h k.view) (sym (view_is r s e)) (record {
+        subst (λ (k : Sitter). HandStands t.shape ph.keys (past_of ph.positions run k.view.worker) h k.view) (sym (view_is r s e)) (record {
           kind_is = n.kind_is;
           answers = [];
-          doing = subst (λ (k : Kind). ProgressInvariant t.shape k (progress_by keys (past_of positions run r) (new_view (map plain_number cells) r) [])) (sym n.kind_is) (run.doing r less);
+          doing = subst (λ (k : Kind). ProgressInvariant t.shape k (progress_by ph.keys (past_of ph.positions run r) (new_view (map plain_number ph.opening) r) [])) (sym n.kind_is) (run.doing r less);
           answered = record {
             claimed_are = ap (λ (b : Bool). left_over b h.position) (sym n.no_key);
             done_are = n.none_done;
@@ -117,12 +121,12 @@ module _ (t : Table) (kind : Kind) (positions : ℕ) (cells keys : List ℕ) (c 
             marks = λ p inside. ((λ is. absurd (true≢false (sym is ∙ unmarked h n p inside))), (λ has. absurd (contains_none (answer p true) has)));
           };
           opening = refl;
-          long = ap length n.unmarked ∙ length-replicate positions false;
+          long = ap length n.unmarked ∙ length-replicate ph.positions false;
         });
   }
     where
-      run : RunInvariant (started kind t.shape cells (λ v. keys))
-      run = run_starts kind t.shape cells (λ v. keys) long
+      run : RunInvariant (started ph.kind t.shape ph.opening (λ v. ph.keys))
+      run = run_starts ph.kind t.shape ph.opening (λ v. ph.keys) (long ∙ ap (λ (y : Shape). cell_count y) (sym shape_is))
 
-      unmarked : (h : Hand) → IsNew t.shape kind positions h → (p : ℕ) → p < length h.found.items → slice_index_or h.found.items p false ≡ false
-      unmarked h n p inside = ap (λ (l : List Bool). slice_index_or l p false) n.unmarked ∙ get_or-replicate positions p false false (let e : length h.found.items ≡ positions = ap length n.unmarked ∙ length-replicate positions false in omega (arith, inside, e))
+      unmarked : (h : Hand) → IsNew t.shape ph.kind ph.positions h → (p : ℕ) → p < length h.found.items → slice_index_or h.found.items p false ≡ false
+      unmarked h n p inside = ap (λ (l : List Bool). slice_index_or l p false) n.unmarked ∙ get_or-replicate ph.positions p false false (let e : length h.found.items ≡ ph.positions = ap length n.unmarked ∙ length-replicate ph.positions false in omega (arith, inside, e))

@@ -29,7 +29,7 @@ use Rattle.rh_run.proofs.Sharing.{claims_at, claims_size, run_shared_ends, share
 use Rattle.rh_shared.specs.Ends.{Leaves}
 use Rattle.rh_threads.specs.Hands.{Answer, InPairs, IsFinished, IsHand, answer, keys_done, left_over, positions_of, told_of}
 use Rattle.rh_threads.specs.Made.{HasWorkedOut, first_set}
-use Rattle.rh_threads.specs.Rounds.{Comes, Phase, all_changed, is_marked, run_of}
+use Rattle.rh_threads.specs.Rounds.{Comes, Setting, all_changed, is_marked, run_of}
 use Rattle.rh_threads.specs.declared.hand.Hand.{Hand}
 use Rattle.rh_threads.proofs.Gathering.{Gathered, gathered}
 use Rattle.rh_threads.proofs.Sums.{alike_at, all_changed_is, by_one, count_in, count_sum, marked_by, of_mapped, one_of_sum, same_truth, sum_below, tally_is}
@@ -42,7 +42,7 @@ at_or (x ∷ xs) (suc i) a d e = at_or xs i a d e
 value_back : (value : ℕ) → value_of (plain_number value) ≡ value
 value_back value = omega arith
 
-module _ (ph : Phase) (vs : List Sitter) (hs : List Hand) (values : List ℕ) (spans : Spans vs 0 ph.shape.workers) (long : length hs ≡ ph.shape.workers) (comes : Comes ph vs hs) (leaves : Leaves ph.shape vs values) (list : ph.shape.keys ≡ length ph.keys) (finished : All IsFinished hs) (hands : InPairs (λ v h. IsHand ph.shape ph.keys h v) vs hs) (layout : Layout ph.opening ph.shape.bits (keys_of ph.opening)) (room : LeavesRoom ph.kind ph.shape.bits (keys_of ph.opening) ph.keys) where
+module _ (ph : Setting) (vs : List Sitter) (hs : List Hand) (values : List ℕ) (spans : Spans vs 0 ph.shape.workers) (long : length hs ≡ ph.shape.workers) (comes : Comes ph vs hs) (leaves : Leaves ph.shape vs values) (list : ph.shape.keys ≡ length ph.keys) (finished : All IsFinished hs) (hands : InPairs (λ v h. IsHand ph.shape ph.keys h v) vs hs) (layout : Layout ph.opening ph.shape.bits (keys_of ph.opening)) (room : LeavesRoom ph.kind ph.shape.bits (keys_of ph.opening) ph.keys) where
   abbrev m : AreMade ph.shape vs
   m = leaves.made
 

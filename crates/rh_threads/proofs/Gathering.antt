@@ -14,7 +14,7 @@ use Rattle.rh_run.specs.Words.{IsWiped}
 use Rattle.rh_run.proofs.Stepping.{run_gathers}
 use Rattle.rh_run.proofs.Turning.{run_rounds}
 use Rattle.rh_threads.specs.Hands.{Answer, Answered, Past, HandStands, keys_done, progress_by, told_of}
-use Rattle.rh_threads.specs.Rounds.{Comes, Phase, past_of, run_of}
+use Rattle.rh_threads.specs.Rounds.{Comes, Setting, past_of, run_of}
 use Rattle.rh_threads.specs.declared.hand.Hand.{Hand}
 use Rattle.rh_threads.proofs.Wiped.{wiped_words}
 
@@ -32,7 +32,7 @@ choose P other (suc n) each =
     )
 
 -- what the worker of this number answered, and its hand
-pub record AnsweredBy (ph : Phase) (keep : ℕ → View) (hs : List Hand) (v : ℕ) (answers : List Answer) : Type 0 where
+pub record AnsweredBy (ph : Setting) (keep : ℕ → View) (hs : List Hand) (v : ℕ) (answers : List Answer) : Type 0 where
   pub hand : Hand
   pub at : get_elem? hs v ≡ some hand
   pub kind_is : hand.kind ≡ ph.kind
@@ -40,12 +40,12 @@ pub record AnsweredBy (ph : Phase) (keep : ℕ → View) (hs : List Hand) (v : �
   pub answered : Answered ph.shape hand (keep v) answers
 
 -- the run at the end of a round
-pub record Gathered (ph : Phase) (words : List ℕ) (keep : ℕ → View) (hs : List Hand) : Type 0 where
+pub record Gathered (ph : Setting) (words : List ℕ) (keep : ℕ → View) (hs : List Hand) : Type 0 where
   pub answers : ℕ → List Answer
   pub run : RunInvariant (run_of ph words keep (λ v. keys_done ph.keys (answers v)) (λ v. told_of (answers v)))
   pub each : (v : ℕ) → v < ph.shape.workers → AnsweredBy ph keep hs v (answers v)
 
-module _ (ph : Phase) (vs : List Sitter) (hs : List Hand) (spans : Spans vs 0 ph.shape.workers) (long : length hs ≡ ph.shape.workers) (comes : Comes ph vs hs) (m : AreMade ph.shape vs) where
+module _ (ph : Setting) (vs : List Sitter) (hs : List Hand) (spans : Spans vs 0 ph.shape.workers) (long : length hs ≡ ph.shape.workers) (comes : Comes ph vs hs) (m : AreMade ph.shape vs) where
   abbrev past : ℕ → Past
   past = past_of ph.positions comes.run
 

@@ -2,7 +2,6 @@
 use Rattle.std.proofs.Common.{◌≡◌, ℕ, List, sym, ◌∙◌, subst, arith, []}
 use mathlib.Core.Option.{some}
 use lib.ListN.{get_elem?}
-use Rattle.rh_ledger.specs.declared.tally.Kind.{Kind}
 use Rattle.rh_rule.specs.declared.rule.Sitter.{Sitter}
 use Rattle.rh_words.specs.View.{View, round_view}
 use Rattle.rh_rule.specs.Seats.{InView, Spans, sitter}
@@ -13,7 +12,7 @@ use Rattle.rh_shared.specs.Crews.{HasAll, SitsAt, IsFresh, views_of}
 use Rattle.rh_shared.specs.Ends.{IsWiped}
 use Rattle.rh_threads.specs.Crew.{CanWork, HaveWorked}
 use Rattle.rh_threads.specs.Hands.{InPairs, IsHand}
-use Rattle.rh_threads.specs.Rounds.{Comes, past_of, phase}
+use Rattle.rh_threads.specs.Rounds.{Comes, Setting, at_table, past_of}
 use Rattle.rh_threads.specs.declared.crew.Crew.{Crew}
 use Rattle.rh_threads.specs.declared.hand.Hand.{Hand}
 use Rattle.rh_threads.proofs.Gathering.{comes_on}
@@ -28,8 +27,8 @@ module _ (t : Table) (keys : List ℕ) (c then : Crew) (all : HasAll t c.seat) (
   pub worked_all : HasAll t then.seat
   worked_all = record { own = worked.crew.here.own; first = worked.first ∙ all.first; count = worked.count ∙ all.count }
 
-  pub worked_comes : (kind : Kind) (opening : List ℕ) (positions : ℕ) → Comes (phase t.shape kind opening keys positions) (views_of c.seat) c.hands → Comes (phase t.shape kind opening keys positions) (views_of then.seat) then.hands
-  worked_comes kind opening positions was = record { words = was.words; keep = was.keep; done = was.done; told = was.told; run = was.run; stands = worked.stands (past_of positions was.run) was.stands }
+  pub worked_comes : (ph : Setting) → Comes (at_table t keys ph) (views_of c.seat) c.hands → Comes (at_table t keys ph) (views_of then.seat) then.hands
+  worked_comes ph was = record { words = was.words; keep = was.keep; done = was.done; told = was.told; run = was.run; stands = worked.stands (past_of ph.positions was.run) was.stands }
 
   -- ---- and their table was wiped
 
@@ -52,6 +51,6 @@ module _ (t : Table) (keys : List ℕ) (c then : Crew) (all : HasAll t c.seat) (
       fresh = fresh;
     }
 
-    pub wiped_comes : (kind : Kind) (opening : List ℕ) (positions : ℕ) → Comes (phase t.shape kind opening keys positions) (views_of c.seat) c.hands → Comes (phase t.shape kind opening keys positions) (views_of seat) then.hands
-    wiped_comes kind opening positions was = comes_on (phase t.shape kind opening keys positions) (views_of then.seat) then.hands (all_spans t then.seat worked_all) (worked.crew.long ∙ worked_all.count)
-        (worked_comes kind opening positions was) wiped.made (views_of seat) wiped.views
+    pub wiped_comes : (ph : Setting) → Comes (at_table t keys ph) (views_of c.seat) c.hands → Comes (at_table t keys ph) (views_of seat) then.hands
+    wiped_comes ph was = comes_on (at_table t keys ph) (views_of then.seat) then.hands (all_spans t then.seat worked_all) (worked.crew.long ∙ worked_all.count)
+        (worked_comes ph was) wiped.made (views_of seat) wiped.views

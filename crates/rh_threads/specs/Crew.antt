@@ -1,5 +1,5 @@
 -- Workers of a phase with their seat, who fork in halves and join again.
-use Rattle.std.specs.Prelude.{◌≡◌, ℕ, ◌+◌, ◌<◌, true, false, min, List, All, Bool, length, take, drop}
+use Rattle.std.specs.Prelude.{◌≡◌, ℕ, ◌+◌, ◌<◌, true, false, min, List, All, Bool, length, take, drop, Result, Ok, Err}
 use Rattle.rh_bytes.specs.Counting.{last_count}
 use Rattle.rh_layout.specs.Key.{IsKey}
 use Rattle.rh_shared.specs.Crews.{SitsAt, IsCut, IsFresh, IsQuiet, views_of}
@@ -58,6 +58,11 @@ RefusedBy allows (NotStarted worker) = allows worker ≡ true
 abbrev pub IsFault : (allows : ℕ → Bool) → (workers : ℕ) → Fault → Type 0
 IsFault allows workers faults.Memory = Unit {0}
 IsFault allows workers (faults.Refused why) = (1 < workers) × RefusedBy allows why
+
+-- An answer is given where each worker after the first may start; a fault tells why a phase was not carried out.
+abbrev pub Heeds : {A : Type 0} → (allows : ℕ → Bool) → (workers : ℕ) → Result A Fault → Type 0
+Heeds allows workers (Ok x) = AllMayStart allows 0 workers
+Heeds allows workers (Err fault) = IsFault allows workers fault
 
 -- what is told of it
 abbrev pub told_as : Fault → PhaseFault

@@ -1,11 +1,12 @@
 -- What a phase makes of the cells.
-use Rattle.std.specs.Prelude.{◌≡◌, ◌≢◌, ℕ, ◌^◌, ◌<◌, ◌≤◌, false, All, List, length, replicate, slice_index}
+use Rattle.std.specs.Prelude.{◌≡◌, ◌≢◌, ℕ, ◌+◌, ◌^◌, ◌<◌, ◌≤◌, false, All, List, length, replicate, slice_index}
+use Rattle.std.specs.FinSet as set
 use Rattle.std.specs.FinSet.{contains}
 use Rattle.rh_layout.specs.Layout.{IsLayout, Keys, Layout, keys_of}
 use Rattle.rh_ledger.specs.declared.tally.Kind.{Kind}
 use Rattle.rh_ledger.specs.declared.tally.Tally.{Tally}
-use Rattle.rh_ledger.specs.declared.tally.Kind.TheVariants.{Ask}
-use Rattle.rh_ledger.specs.Phase.{set_after, tally_of}
+use Rattle.rh_ledger.specs.declared.tally.Kind.TheVariants.{Insert, Remove, Ask}
+use Rattle.rh_ledger.specs.Phase.{most_added, set_after, tally_of}
 use Rattle.rh_runner.specs.Cells.{AreTheCells}
 use Rattle.rh_ledger.specs.Tally.{tally_by}
 use Rattle.rh_words.specs.declared.limits.TheConstants.{MAX_ROOM, MAX_WORKERS}
@@ -17,9 +18,10 @@ use Rattle.rh_shared.specs.declared.table.Table.{Table}
 use Rattle.rh_rule.specs.Seats.{InView}
 use Rattle.rh_threads.specs.Crew.{IsCrew}
 use Rattle.rh_threads.specs.Hands.{IsFinished}
-use Rattle.rh_threads.specs.Rounds.{Comes, Phase, all_changed, is_marked, phase}
+use Rattle.rh_threads.specs.Rounds.{Comes, Setting, all_changed, at_table, is_marked}
 use Rattle.rh_threads.specs.declared.crew.Crew.{Crew}
 use Rattle.rh_threads.specs.declared.hand.Hand.{Hand}
+use Rattle.rh_threads.specs.declared.phase.Phase.{Phase}
 
 -- so many workers a table may have, and a phase needs
 abbrev pub IsWorkers : (workers : ℕ) → Type 0
@@ -47,30 +49,47 @@ pub record AreNew (z : Shape) (kind : Kind) (positions : ℕ) (hs : List Hand) :
   pub long : length hs ≡ z.workers
   pub each : All (IsNew z kind positions) hs
 
+-- ---- a phase
+
+-- The cells are a layout, and leave one of them free for each key that may be added, and one more.
+pub record HasRoomFor (p : Phase) (cells : List ℕ) : Type 0 where
+  pub layout : IsLayout p.shape.bits cells
+  pub room : set.len (keys_of cells) + most_added p.kind p.keys.now < 2 ^ p.shape.bits
+
+-- how many positions of a list the hands may mark: of those whose keys are looked up
+abbrev pub markable : Kind → (many : ℕ) → ℕ
+markable Insert many = 0
+markable Remove many = 0
+markable Ask many = many
+
+-- its setting, where it starts from these cells
+abbrev pub opened : Phase → (opening : List ℕ) → Setting
+opened p opening = record { kind = p.kind; shape = p.shape; opening = opening; keys = p.keys.now; positions = markable p.kind (length p.keys.now) }
+
 -- the set that the cells held at the start
-abbrev pub first_set : Phase → Keys
+abbrev pub first_set : Setting → Keys
 first_set ph = keys_of ph.opening
 
 -- These values are the layout of the set that is meant. The hands have counted what came of the phase, and marked the positions
 -- whose keys were found.
-pub record HasWorkedOut (ph : Phase) (values : List ℕ) (hs : List Hand) : Type 0 where
+pub record HasWorkedOut (ph : Setting) (values : List ℕ) (hs : List Hand) : Type 0 where
   pub layout : Layout values ph.shape.bits (set_after ph.kind (first_set ph) ph.keys)
   pub few : ph.kind ≢ Ask → all_changed hs < 2 ^ 64
   pub tally : ph.kind ≢ Ask → tally_by ph.kind (length ph.keys) (all_changed hs) ≡ tally_of ph.kind (first_set ph) ph.keys
   pub found : ph.kind ≡ Ask → (p : ℕ) → p < length ph.keys → p < ph.positions → is_marked hs p ≡ contains (first_set ph) (slice_index ph.keys p)
 
 -- The workers of the table have done all keys of the list, in as many rounds as that took, and are at rest.
-pub record IsWorkedOut (ph : Phase) (t : Table) (c : Crew) : Type 0 where
+pub record IsWorkedOut (ph : Setting) (t : Table) (c : Crew) : Type 0 where
   pub shape_is : t.shape ≡ ph.shape
   pub crew : IsCrew t ph.keys c
   pub all : HasAll t c.seat
   pub quiet : InView IsQuiet (views_of c.seat)
   pub finished : All IsFinished c.hands
-  pub comes : Comes (phase t.shape ph.kind ph.opening ph.keys ph.positions) (views_of c.seat) c.hands
+  pub comes : Comes (at_table t ph.keys ph) (views_of c.seat) c.hands
 
 -- The new cells are the one layout of the old ones' set after the keys, and this is the tally of one worker.
-pub record HasChanged (kind : Kind) (bits : ℕ) (old new keys : List ℕ) (told : Tally) : Type 0 where
-  pub layout : IsLayout bits new
-  pub keys_are : keys_of new ≡ set_after kind (keys_of old) keys
-  pub cells_are : AreTheCells bits (set_after kind (keys_of old) keys) new
-  pub tally : told ≡ tally_of kind (keys_of old) keys
+pub record HasChanged (p : Phase) (old new : List ℕ) (told : Tally) : Type 0 where
+  pub layout : IsLayout p.shape.bits new
+  pub keys_are : keys_of new ≡ set_after p.kind (keys_of old) p.keys.now
+  pub cells_are : AreTheCells p.shape.bits (set_after p.kind (keys_of old) p.keys.now) new
+  pub tally : told ≡ tally_of p.kind (keys_of old) p.keys.now

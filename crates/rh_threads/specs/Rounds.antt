@@ -14,20 +14,21 @@ use Rattle.rh_threads.specs.Hands.{AllStand, IsFinished, Past}
 use Rattle.rh_threads.specs.declared.crew.Crew.{Crew}
 use Rattle.rh_threads.specs.declared.hand.Hand.{Hand}
 
--- What a phase is about: its kind, the cells from which it starts, the list that all workers share, and how many positions of
+-- The setting of a phase: its kind, the cells from which it starts, the list that all workers share, and how many positions of
 -- that may be marked.
-pub record Phase : Type 0 where
+pub record Setting : Type 0 where
   pub kind : Kind
   pub shape : Shape
   pub opening : List ℕ
   pub keys : List ℕ
   pub positions : ℕ
 
-abbrev pub phase : Shape → Kind → (opening keys : List ℕ) (positions : ℕ) → Phase
-phase z kind opening keys positions = record { kind = kind; shape = z; opening = opening; keys = keys; positions = positions }
+-- at this table, with this list
+abbrev pub at_table : Table → (keys : List ℕ) → Setting → Setting
+at_table t keys ph = record ph { shape = t.shape; keys = keys }
 
 -- its run, where each worker has the list
-abbrev pub run_of : Phase → (words : List ℕ) (keep : ℕ → View) (done : ℕ → List ℕ) (told : ℕ → List Bool) → Run
+abbrev pub run_of : Setting → (words : List ℕ) (keep : ℕ → View) (done : ℕ → List ℕ) (told : ℕ → List Bool) → Run
 run_of ph words keep done told = record {
   kind = ph.kind;
   shape = ph.shape;
@@ -44,7 +45,7 @@ abbrev pub past_of : {r : Run} → (positions : ℕ) → RunInvariant r → (v :
 past_of {r = r} positions run v = record { kind = r.kind; positions = positions; opening = (r.keep v).opening; acts = own v run.before; reads = run.reads v }
 
 -- At the start of the round there was a run of this phase. From it on each worker has come as far as its hand says.
-pub record Comes (ph : Phase) (vs : List Sitter) (hs : List Hand) : Type 0 where
+pub record Comes (ph : Setting) (vs : List Sitter) (hs : List Hand) : Type 0 where
   pub words : List ℕ
   pub keep : ℕ → View
   pub done : ℕ → List ℕ
@@ -59,8 +60,7 @@ pub record HaveDone (t : Table) (keys : List ℕ) (c then : Crew) : Type 0 where
   pub all : HasAll t then.seat
   pub quiet : InView IsQuiet (views_of then.seat)
   pub finished : All IsFinished then.hands
-  pub comes : (kind : Kind) (opening : List ℕ) (positions : ℕ) → Comes (phase t.shape kind opening keys positions) (views_of c.seat) c.hands
-      → Comes (phase t.shape kind opening keys positions) (views_of then.seat) then.hands
+  pub comes : (ph : Setting) → Comes (at_table t keys ph) (views_of c.seat) c.hands → Comes (at_table t keys ph) (views_of then.seat) then.hands
 
 -- ---- what all hands say
 

@@ -9,7 +9,7 @@
 //!
 //! - `Threads`: the `Runner` by 1 to 16 workers, which its type keeps. It counts the phases in
 //!   which the fork handed on a refused start, and answers `NoThread` of those alone.
-//! - `changed`, `asked`: for every list of keys, the workers of a shape, and every interleaving in
+//! - `Phase::change`, `Phase::ask`: for every list of keys, the workers of a shape, and every interleaving in
 //!   which the call returns, the cells are the one layout of the set after the keys. The tally and
 //!   the answers are those of one worker that takes the keys in list order. Where there is an
 //!   answer, none of the workers but the first is one whose start is forbidden. On a fault the
@@ -38,14 +38,14 @@ mod gate;
 mod hand;
 mod hands;
 mod key;
+mod phase;
 mod rounds;
 mod seated;
 mod threads;
-mod working_out;
 
 pub use crew::{AllStart, Refused, Starts};
 pub use fault::Fault;
 pub use gate::{Gate, OpenGate};
 pub use key::{Task, Tried};
+pub use phase::Phase;
 pub use threads::Threads;
-pub use working_out::{asked, changed, shape_of};

@@ -7,7 +7,7 @@ ghost use Rattle.rh_threads.specs.Made.{IsWorkers};
 use crate::crew::AllStart;
 use crate::fault::Fault;
 use crate::gate::OpenGate;
-use crate::working_out::{asked, changed, shape_of};
+use crate::phase::Phase;
 use rh_ledger::{Kind, Tally};
 use rh_runner::{PhaseFault, Runner};
 use rh_words::Rooms;
@@ -66,8 +66,8 @@ impl Runner for Threads {
         cells: &mut Vec<u64>,
         keys: &[u64],
     ) -> Result<Tally, PhaseFault> {
-        let shape = shape_of(bits, self.workers, Rooms::usual(), keys);
-        match changed(rt, alloc, shape, kind, cells, keys, &OpenGate, &AllStart) {
+        let phase = Phase::new(bits, self.workers, Rooms::usual(), kind, keys);
+        match phase.change(rt, alloc, cells, &OpenGate, &AllStart) {
             Ok(tally) => Ok(tally),
             Err(fault) => Err(self.told(fault)),
         }
@@ -81,8 +81,8 @@ impl Runner for Threads {
         cells: &[u64],
         keys: &[u64],
     ) -> Result<Vec<bool>, PhaseFault> {
-        let shape = shape_of(bits, self.workers, Rooms::usual(), keys);
-        match asked(rt, alloc, shape, cells, keys, &OpenGate, &AllStart) {
+        let phase = Phase::new(bits, self.workers, Rooms::usual(), Kind::Ask, keys);
+        match phase.ask(rt, alloc, cells, &OpenGate, &AllStart) {
             Ok(found) => Ok(found),
             Err(fault) => Err(self.told(fault)),
         }

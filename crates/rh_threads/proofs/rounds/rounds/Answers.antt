@@ -11,7 +11,7 @@ returns-then-are_finished-clause-done g c =
       all = worked_all t c.args.keys.now c.loop.crew c.in_ok-crew.crew h.all w;
       quiet = w.quiet;
       finished = c.if-are_finished.ensures.0 refl;
-      comes = λ kind opening positions was. worked_comes t c.args.keys.now c.loop.crew c.in_ok-crew.crew h.all w kind opening positions (h.comes kind opening positions was);
+      comes = λ ph was. worked_comes t c.args.keys.now c.loop.crew c.in_ok-crew.crew h.all w ph (h.comes ph was);
     }
 
 pub loop-preserved : goal.loop-preserved
@@ -22,5 +22,5 @@ loop-preserved g c =
     let e = c.wipe.ensures in record {
       can = wiped_can t c.args.keys.now c.loop.crew c.in_ok-crew.crew h.all w c.wipe.new.seat e.all e.wiped e.fresh;
       all = e.all;
-      comes = λ kind opening positions was. wiped_comes t c.args.keys.now c.loop.crew c.in_ok-crew.crew h.all w c.wipe.new.seat e.all e.wiped e.fresh kind opening positions (h.comes kind opening positions was);
+      comes = λ ph was. wiped_comes t c.args.keys.now c.loop.crew c.in_ok-crew.crew h.all w c.wipe.new.seat e.all e.wiped e.fresh ph (h.comes ph was);
     }
