@@ -36,6 +36,13 @@ struct Told {
     left: Option<u64>,
 }
 
+/// A worker that stopped before the decision of its descriptor of this number.
+#[derive(Drop)]
+struct Stopped {
+    seat: Seat,
+    number: u64,
+}
+
 /// One worker stops before its decision on cell 4, and the other one swaps the same cell, or helps.
 fn run<R: Threads + Wait + Abort + Sync>(
     rt: &R,
@@ -44,11 +51,9 @@ fn run<R: Threads + Wait + Abort + Sync>(
 ) -> Result<Told, AllocError> {
     let (table, first, second) = two_workers(rt, alloc, rooms(8, 8), &[0; 8])?;
     let entries = [change(4, 0, 9)];
-    let (first, number) = stopped(rt, &table, first, &entries);
-    let ((mut first, seen), (mut second, own)) = both(
-        rt, &table, first, second, &entries, number, swaps,
-    );
-    let ended = go_on(rt, &table, &mut first, &entries, number);
+    let first = stop(rt, &table, first, &entries);
+    let ((mut first, seen), (mut second, own)) = both(rt, &table, first, second, &entries, swaps);
+    let ended = go_on(rt, &table, &mut first.seat, &entries, first.number);
     let left = value(rt, &table, &mut second, 4);
     Ok(Told {
         seen,
@@ -58,54 +63,56 @@ fn run<R: Threads + Wait + Abort + Sync>(
     })
 }
 
-fn stopped<R: Abort>(rt: &R, table: &Table, seat: Seat, entries: &[Entry]) -> (Seat, u64)
+fn stop<R: Abort>(rt: &R, table: &Table, seat: Seat, entries: &[Entry]) -> Stopped
     requires { SeatRests table.now seat }
-    ensures { IsHalfway table.now result.0 entries.now result.1 }
+    ensures { IsHalfway table.now result.seat entries.now result.number }
 {
     let mut seat = seat;
     assert!(rt; are_entries(&table.shape, entries));
     assert!(rt; seat.side.next_number < table.shape.rooms.descriptors);
     let number = stop_halfway(table, &mut seat, entries);
-    (seat, number.expect(rt, "the worker comes to its decision"))
+    Stopped {
+        seat,
+        number: number.expect(rt, "the worker comes to its decision"),
+    }
 }
 
 fn both<R: Threads + Wait + Abort + Sync>(
     rt: &R,
     table: &Table,
-    first: Seat,
+    first: Stopped,
     second: Seat,
     entries: &[Entry],
-    number: u64,
     swaps: bool,
-) -> ((Seat, Option<State>), (Seat, Option<Outcome>))
-    requires first { IsHalfway table.now first entries.now number }
+) -> ((Stopped, Option<State>), (Seat, Option<Outcome>))
+    requires first { IsHalfway table.now first.seat entries.now first.number }
     requires second { SeatRests table.now second }
-    ensures first { IsHalfway table.now result.0.0 entries.now number }
+    ensures first { IsHalfway table.now result.0.0.seat entries.now result.0.0.number }
     ensures second { SeatRests table.now result.1.0 }
 {
     join(
         rt,
-        || -> (Seat, Option<State>)
-            requires { IsHalfway table.now first entries.now number }
-            ensures { IsHalfway table.entry.now result.0 entries.entry.now number }
-        { watched(table, first, entries, number) },
+        || -> (Stopped, Option<State>)
+            requires { IsHalfway table.now first.seat entries.now first.number }
+            ensures { IsHalfway table.entry.now result.0.seat entries.entry.now result.0.number }
+        { wait_for_help(table, first, entries) },
         || -> (Seat, Option<Outcome>)
             requires { SeatRests table.now second }
             ensures { SeatRests table.entry.now result.0 }
-        { helped(rt, table, second, swaps) },
+        { swap_or_help(rt, table, second, swaps) },
     )
 }
 
-fn watched(table: &Table, seat: Seat, entries: &[Entry], number: u64) -> (Seat, Option<State>)
-    requires { IsHalfway table.now seat entries.now number }
-    ensures { IsHalfway table.now result.0 entries.now number }
+fn wait_for_help(table: &Table, first: Stopped, entries: &[Entry]) -> (Stopped, Option<State>)
+    requires { IsHalfway table.now first.seat entries.now first.number }
+    ensures { IsHalfway table.now result.0.seat entries.now result.0.number }
 {
-    let mut seat = seat;
-    let seen = watch(table, &mut seat, entries, number, READS);
-    (seat, seen)
+    let mut first = first;
+    let seen = watch(table, &mut first.seat, entries, first.number, READS);
+    (first, seen)
 }
 
-fn helped<R: Wait + Abort>(
+fn swap_or_help<R: Wait + Abort>(
     rt: &R,
     table: &Table,
     seat: Seat,
