@@ -11,11 +11,12 @@ use Rattle.rh_rule.specs.declared.rule.Sitter.{Sitter}
 use Rattle.rh_words.specs.View.{View}
 use Rattle.rh_rule.specs.Seats.{InView, sitter}
 use Rattle.rh_rule.proofs.SeatsKept.{at_append, at_drop, at_take, one_at, there}
+use Rattle.rh_shared.specs.Rests.{SeatRests}
 use Rattle.rh_shared.specs.Seats.{trace_of, view_of}
 use Rattle.rh_shared.specs.declared.seat.Seat.{Seat}
 use Rattle.rh_shared.specs.declared.table.Table.{Table}
 use Rattle.rh_shared.specs.Crews.{SitsAt, IsCut, IsFresh, IsJoined, IsQuiet, views_of}
-use Rattle.rh_threads.specs.Crew.{AllMayStart, AreHalves, CanWork, HaveWorked}
+use Rattle.rh_threads.specs.Crew.{AllMayStart, AreHalves, CanWork, HaveWorked, WorksOn}
 use Rattle.rh_threads.specs.Hands.{AllStand, HasStopped, InPairs, IsHand, Past, HandStands}
 use Rattle.rh_threads.specs.declared.crew.Crew.{Crew}
 use Rattle.rh_threads.specs.declared.hand.Hand.{Hand}
@@ -56,35 +57,27 @@ are_halves c left right at half cut at_is first second =
     }
 
 module _ (t : Table) (keys : List ℕ) (c left right : Crew) (can : CanWork t keys c) (cut : AreHalves c left right) where
+  of_left : (P : View → Hand → Type 0) → InPairs P (views_of c.seat) c.hands → InPairs P (views_of left.seat) left.hands
+  of_left P each = subst (λ (hs : List Hand). InPairs P (views_of left.seat) hs) (sym cut.left_hands) (subst (λ (vs : List Sitter). InPairs P vs (take left.seat.count c.hands)) (sym cut.seats.left_views) (pairs_left P (views_of c.seat) c.hands left.seat.count each))
+
+  of_right : (P : View → Hand → Type 0) → InPairs P (views_of c.seat) c.hands → InPairs P (views_of right.seat) right.hands
+  of_right P each = subst (λ (hs : List Hand). InPairs P (views_of right.seat) hs) (sym cut.right_hands) (subst (λ (vs : List Sitter). InPairs P vs (drop left.seat.count c.hands)) (sym cut.seats.right_views) (pairs_right P (views_of c.seat) c.hands left.seat.count each))
+
+  can_work : (half : Crew) → SitsAt t half.seat → InView IsFresh (views_of half.seat) → length half.hands ≡ half.seat.count → InPairs (λ v h. IsHand t.shape keys h v) (views_of half.seat) half.hands → CanWork t keys half
+  can_work half here fresh long hands = record { crew = record { here = here; long = long; hands = hands; list = can.crew.list; keys_are = can.crew.keys_are }; fresh = fresh }
+
   pub half_can_left : SitsAt t left.seat → InView IsFresh (views_of left.seat) → CanWork t keys left
-  half_can_left here fresh = record {
-    crew = record {
-      here = here;
-      long = ap length cut.left_hands ∙ length-take-le left.seat.count c.hands (let l = can.crew.long in let m = cut.seats.middle in let e = cut.seats.end in omega (arith, l, m, e));
-      hands = of_left (λ v h. IsHand t.shape keys h v) can.crew.hands;
-      list = can.crew.list;
-      keys_are = can.crew.keys_are;
-    };
-    fresh = fresh;
-  }
-    where
-      of_left : (P : View → Hand → Type 0) → InPairs P (views_of c.seat) c.hands → InPairs P (views_of left.seat) left.hands
-      of_left P each = subst (λ (hs : List Hand). InPairs P (views_of left.seat) hs) (sym cut.left_hands) (subst (λ (vs : List Sitter). InPairs P vs (take left.seat.count c.hands)) (sym cut.seats.left_views) (pairs_left P (views_of c.seat) c.hands left.seat.count each))
+  half_can_left here fresh = can_work left here fresh
+      (ap length cut.left_hands ∙ length-take-le left.seat.count c.hands (let l = can.crew.long in let m = cut.seats.middle in let e = cut.seats.end in omega (arith, l, m, e)))
+      (of_left (λ v h. IsHand t.shape keys h v) can.crew.hands)
 
   pub half_can_right : SitsAt t right.seat → InView IsFresh (views_of right.seat) → CanWork t keys right
-  half_can_right here fresh = record {
-    crew = record {
-      here = here;
-      long = ap length cut.right_hands ∙ length-drop left.seat.count c.hands ∙ (let l = can.crew.long in let m = cut.seats.middle in let e = cut.seats.end in omega (arith, l, m, e));
-      hands = of_right (λ v h. IsHand t.shape keys h v) can.crew.hands;
-      list = can.crew.list;
-      keys_are = can.crew.keys_are;
-    };
-    fresh = fresh;
-  }
-    where
-      of_right : (P : View → Hand → Type 0) → InPairs P (views_of c.seat) c.hands → InPairs P (views_of right.seat) right.hands
-      of_right P each = subst (λ (hs : List Hand). InPairs P (views_of right.seat) hs) (sym cut.right_hands) (subst (λ (vs : List Sitter). InPairs P vs (drop left.seat.count c.hands)) (sym cut.seats.right_views) (pairs_right P (views_of c.seat) c.hands left.seat.count each))
+  half_can_right here fresh = can_work right here fresh
+      (ap length cut.right_hands ∙ length-drop left.seat.count c.hands ∙ (let l = can.crew.long in let m = cut.seats.middle in let e = cut.seats.end in omega (arith, l, m, e)))
+      (of_right (λ v h. IsHand t.shape keys h v) can.crew.hands)
+
+  abbrev stood : (ℕ → Past) → View → Hand → Type 0
+  stood past v h = HandStands t.shape keys (past v.worker) h v
 
   -- both halves have worked
   pub all_worked : (l r both : Crew) → HaveWorked t keys left l → HaveWorked t keys right r → SitsAt t both.seat → IsJoined l.seat r.seat both.seat → both.hands ≡ l.hands ++ r.hands → HaveWorked t keys c both
@@ -100,9 +93,7 @@ module _ (t : Table) (keys : List ℕ) (c left right : Crew) (can : CanWork t ke
     count = let j = joined.count in let x = a.count in let y = b.count in let m = cut.seats.middle in let e = cut.seats.end in omega (arith, j, x, y, m, e);
     quiet = subst (InView IsQuiet) (sym joined.views) (view_both IsQuiet (views_of l.seat) (views_of r.seat) a.quiet b.quiet);
     stopped = of_both (λ v h. HasStopped t.shape h v) a.stopped b.stopped;
-    stands = λ past was. of_both (λ v h. HandStands t.shape keys (past v.worker) h v)
-        (a.stands past (subst (λ (hs : List Hand). AllStand t.shape keys past (views_of left.seat) hs) (sym cut.left_hands) (subst (λ (vs : List Sitter). AllStand t.shape keys past vs (take left.seat.count c.hands)) (sym cut.seats.left_views) (pairs_left (λ v h. HandStands t.shape keys (past v.worker) h v) (views_of c.seat) c.hands left.seat.count was))))
-        (b.stands past (subst (λ (hs : List Hand). AllStand t.shape keys past (views_of right.seat) hs) (sym cut.right_hands) (subst (λ (vs : List Sitter). AllStand t.shape keys past vs (drop left.seat.count c.hands)) (sym cut.seats.right_views) (pairs_right (λ v h. HandStands t.shape keys (past v.worker) h v) (views_of c.seat) c.hands left.seat.count was))));
+    stands = λ past was. of_both (stood past) (a.stands past (of_left (stood past) was)) (b.stands past (of_right (stood past) was));
   }
     where
       of_both : (P : View → Hand → Type 0) → InPairs P (views_of l.seat) l.hands → InPairs P (views_of r.seat) r.hands → InPairs P (views_of both.seat) both.hands
@@ -128,35 +119,46 @@ alone_views s one = ap (λ x. x.0) (s.alone one)
 pub alone_at : (s : Seat) → s.count ≡ 1 → get_elem? (views_of s) 0 ≡ some (sitter (view_of s) (trace_of s))
 alone_at s one = ap (λ (l : List Sitter). get_elem? l 0) (alone_views s one)
 
-pub first_at : (hs : List Hand) (h : Hand) → 0 < length hs → h ≡ get_or hs 0 h → get_elem? hs 0 ≡ some h
+first_at : (hs : List Hand) (h : Hand) → 0 < length hs → h ≡ get_or hs 0 h → get_elem? hs 0 ≡ some h
 first_at [] h some_one is = absurd (omega (arith, some_one))
 first_at (x ∷ xs) h some_one is = ap (λ (g : Hand). some g) (sym is)
+
+pub front_at : (c : Crew) (h : Hand) → length c.hands ≡ c.seat.count → c.seat.count ≡ 1 → h ≡ get_or c.hands 0 h → get_elem? c.hands 0 ≡ some h
+front_at c h long one is = first_at c.hands h (omega (arith, long, one)) is
 
 set_first : (hs : List Hand) (h g : Hand) → 0 < length hs → get_elem? (set hs 0 h) 0 ≡ some g → h ≡ g
 set_first [] h g some_one at = absurd (omega (arith, some_one))
 set_first (x ∷ xs) h g some_one at = some-injective h g at
 
 module _ (t : Table) (keys : List ℕ) (c : Crew) (one : c.seat.count ≡ 1) (can : CanWork t keys c) (seat : Seat) (hand next : Hand) (at : get_elem? c.hands 0 ≡ some hand) where
-  pub one_worked : SitsAt t seat → seat.count ≡ 1 → seat.side.worker ≡ c.seat.side.worker → IsQuiet (view_of seat) → IsHand t.shape keys next (view_of seat) → HasStopped t.shape next (view_of seat)
-      → ((past : Past) → HandStands t.shape keys past hand (view_of c.seat) → HandStands t.shape keys past next (view_of seat)) → HaveWorked t keys c (record { seat = seat; hands = set c.hands 0 next })
-  one_worked here alone same quiet is why stands = record {
+  pub one_worked : WorksOn t keys hand c.seat next seat → HasStopped t.shape next (view_of seat) → HaveWorked t keys c (record { seat = seat; hands = set c.hands 0 next })
+  one_worked works why = record {
     crew = record {
-      here = here;
+      here = record { own = rests.here.own; within = let w = can.crew.here.within in let s = works.stays.same.worker in omega (arith, w, one, alone, s) };
       long = length-set c.hands 0 next ∙ can.crew.long ∙ one ∙ sym alone;
-      hands = each (λ v h. IsHand t.shape keys h v) is;
+      hands = each (λ v h. IsHand t.shape keys h v) works.hand;
       list = can.crew.list;
       keys_are = can.crew.keys_are;
     };
-    first = same;
+    first = works.stays.same.worker;
     count = alone ∙ sym one;
     quiet = λ r s e. subst (λ (k : Sitter). IsQuiet k.view) (here_is r s e).1 quiet;
     stopped = each (λ v h. HasStopped t.shape h v) why;
     stands = λ past was. each (λ v h. HandStands t.shape keys (past v.worker) h v)
-        (stands (past (view_of seat).worker) (subst (λ (w : ℕ). HandStands t.shape keys (past w) hand (view_of c.seat)) (sym whose) (was 0 (sitter (view_of c.seat) (trace_of c.seat)) hand (alone_at c.seat one) at)));
+        (works.stands (past (view_of seat).worker) (subst (λ (w : ℕ). HandStands t.shape keys (past w) hand (view_of c.seat)) (sym whose) (was 0 (sitter (view_of c.seat) (trace_of c.seat)) hand (alone_at c.seat one) at)));
   }
     where
+      rests : SeatRests t seat
+      rests = works.stays.rests
+
+      alone : seat.count ≡ 1
+      alone = rests.here.alone
+
+      quiet : IsQuiet (view_of seat)
+      quiet = record { still = rests.knows.still; rest = record { closed = rests.rested.clear.own.current; settled = rests.rested.clear.owes.settled; paid = rests.rested.clear.owes.paid } }
+
       whose : (view_of seat).worker ≡ (view_of c.seat).worker
-      whose = seat.side.same_worker ∙ same ∙ sym c.seat.side.same_worker
+      whose = seat.side.same_worker ∙ works.stays.same.worker ∙ sym c.seat.side.same_worker
 
       here_is : (r : ℕ) (s : Sitter) → get_elem? (views_of seat) r ≡ some s → (r ≡ 0) × (sitter (view_of seat) (trace_of seat) ≡ s)
       here_is r s e = one_at (sitter (view_of seat) (trace_of seat)) s r (subst (λ (l : List Sitter). get_elem? l r ≡ some s) (alone_views seat alone) e)
@@ -167,5 +169,3 @@ module _ (t : Table) (keys : List ℕ) (c : Crew) (one : c.seat.count ≡ 1) (ca
           let less : 0 < length c.hands = let l = can.crew.long in omega (arith, l, one) in
           let is_next : next ≡ h = set_first c.hands next h less (subst (λ (i : ℕ). get_elem? (set c.hands 0 next) i ≡ some h) q.0 f) in
           subst (λ (g : Hand). P s.view g) is_next (subst (λ (k : Sitter). P k.view next) q.1 p)
-
--- ---- results

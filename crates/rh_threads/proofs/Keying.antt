@@ -43,7 +43,7 @@ use Rattle.rh_worker.specs.Worker.{HasNoRoom}
 use Rattle.rh_worker.proofs.Keeping.{read_first}
 use Rattle.rh_worker.proofs.Anew.{each_read, front_read, kept_alike, one_read}
 use Rattle.rh_worker.proofs.Scans.{told_is}
-use Rattle.rh_threads.specs.Keys.{Furthers, IsDoneSo, IsUndone}
+use Rattle.rh_threads.specs.Keys.{Furthers, HasOnlyRead, IsDoneSo, IsUndone}
 
 -- ---- what is so of a worker that rests
 
@@ -89,9 +89,6 @@ orderly_more v next d o rest is opened number = record {
 
 -- ---- one call after the other
 
-pub same_first : {s : Seat} → IsSame s s
-same_first = record { sits = record { table = refl; id = refl; worker = refl; count = refl }; placed = refl }
-
 pub same_on : {s t u : Seat} → IsSame s t → IsSame t u → IsSame s u
 same_on a b = record {
   sits = record { table = b.table ∙ a.table; id = b.id ∙ a.id; worker = b.worker ∙ a.worker; count = b.count ∙ a.count };
@@ -103,9 +100,6 @@ stays_on a b = record { same = same_on a b.same; rests = b.rests }
 
 furthers_on : (z : Shape) (kind : Kind) (k : ℕ) (u v w : View) (answer : Option Bool) → Furthers z kind k u v None → Furthers z kind k v w answer → Furthers z kind k u w answer
 furthers_on z kind k u v w answer a b p among is = b p among (a p among is)
-
-pub undone_first : {z : Shape} {kind : Kind} {k : ℕ} {v : View} → IsUndone z kind k v v
-undone_first = record { own = refl; since = []; reads = refl; claims = refl; opening = refl; furthers = λ p among is. is }
 
 module _ {z : Shape} {kind : Kind} {k : ℕ} {u v w : View} (a : IsUndone z kind k u v) where
   pub undone_on : IsUndone z kind k v w → IsUndone z kind k u w
@@ -140,9 +134,9 @@ module _ {z : Shape} {kind : Kind} {k : ℕ} {u v w : View} (a : IsUndone z kind
   }
 
 -- what is told where the cells that were read decide
-pub scan_tells : (z : Shape) (kind : Kind) (k : ℕ) (before : List Kept) (next : View) (now : List ℕ) (n : ℕ) (entries : List Entry) (told : Bool) → n ≤ length now → length now ≤ cell_count z
+pub scan_tells : {z : Shape} {kind : Kind} {k : ℕ} {before : List Kept} {next : View} {now : List ℕ} {n : ℕ} (entries : List Entry) {told : Bool} → n ≤ length now → length now ≤ cell_count z
     → HasScanned z before next k now n → Decides kind z.bits k (take n now) entries (Done told) → IsToldAnew z before next kind k told × IsTold kind z.bits (kept_of z next) k told
-scan_tells z kind k before next now n entries told within room read decides =
+scan_tells {z} {kind} {k} {before} {next} {now} {n} entries {told} within room read decides =
     let front = front_read z before next k now n within read in
     let few : length (take n now) ≤ cell_count z = let l = length-take-le n now within in omega (arith, l, within, room) in (
       record { seen = take n now; read = front; tells = decides },
@@ -150,11 +144,13 @@ scan_tells z kind k before next now n entries told within room read decides =
     )
 
 -- one cell more was read
-pub cell_read : (z : Shape) (k : ℕ) (before : List Kept) (v next : View) (seen : List ℕ) (n c word value : ℕ) → IsSeen z c v next (Some word) → value ≡ value_of word → c < cell_count z
-    → c ≡ cell_ahead (cell_count z) (home_of z.bits k) n → n < length seen → HasScanned z before v k seen n → HasScanned z before next k (set seen n value) (suc n)
-cell_read z k before v next seen n c word value is says inside at within read =
-    one_read z before v next k seen (set seen n value) n c value (λ p less. get_or-set_other seen n p value 0 (let e : p ≡ n → ⊥ = λ q. omega (arith, q, less) in e)) (get_or-set_same seen n value 0 within) at
-    (read_first z v next c word v.next_number value is.1 inside says) read
+pub cell_read : {z : Shape} {k : ℕ} {before : List Kept} {v next : View} {seen : List ℕ} {n c word value : ℕ} → WasRead z c v next (Some word) → value ≡ value_of word → c < cell_count z
+    → c ≡ cell_ahead (cell_count z) (home_of z.bits k) n → n < length seen → HasScanned z before v k seen n → HasScanned z before next k (set seen n value) (n + 1)
+cell_read {z} {k} {before} {v} {next} {seen} {n} {c} {word} {value} is says inside at within read =
+    let then = one_read z before v next k seen (set seen n value) n c value (λ p less. get_or-set_other seen n p value 0 (let e : p ≡ n → ⊥ = λ q. omega (arith, q, less) in e)) (get_or-set_same seen n value 0 within) at
+    (read_first z v next c word v.next_number value is.seen_is.1 inside says) read in
+    let last : suc n ≡ n + 1 = omega arith in
+    subst (HasScanned z before next k (set seen n value)) last then
 
 -- and it held a value
 pub one_value : (seen : List ℕ) (n value : ℕ) → n < length seen → IsValue value → ((p : ℕ) → p < n → IsValue (slice_index seen p)) → (p : ℕ) → p < n + 1 → IsValue (slice_index (set seen n value) p)
@@ -195,12 +191,15 @@ module _ {z : Shape} {kind : Kind} {k : ℕ} {v next : View} (rest : IsRested v)
         (opened_same kind z (record p { view = v }) next is orderly held stay opened);
   }
 
-  pub undone_read : {c : ℕ} {seen : Option ℕ} → c < cell_count z → made next ≡ made v → WasRead z c v next seen → IsUndone z kind k v next
+  undone_read : {c : ℕ} {seen : Option ℕ} → c < cell_count z → made next ≡ made v → WasRead z c v next seen → IsUndone z kind k v next
   undone_read {c} {seen} inside same h = of seen h.seen_is
     where
       of : (s : Option ℕ) → IsSeen z c v next s → IsUndone z kind k v next
       of None q = undone same [] (kept_alike z v next q.0) h.claims h.opening h.opened h.next_number
       of (Some word) q = undone same (kept c (value_of word) ∷ []) (read_first z v next c word v.next_number (value_of word) q.1 inside refl) h.claims h.opening h.opened h.next_number
+
+  pub only_read : {u : View} {c : ℕ} {seen : Option ℕ} → HasOnlyRead z kind k u v → c < cell_count z → made next ≡ made v → WasRead z c v next seen → HasOnlyRead z kind k u next
+  only_read was inside same h = record { undone = undone_on was.undone (undone_read inside same h); unopened = h.next_number ∙ was.unopened }
 
   -- ---- several cells are swapped, in an act that does the key
 

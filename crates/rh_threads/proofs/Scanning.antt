@@ -15,9 +15,6 @@ use Rattle.rh_worker.specs.Deciding.{Decides, IsLeftOpenBy}
 use Rattle.rh_worker.specs.declared.deciding.Decision.TheVariants.{More}
 use Rattle.rh_threads.specs.Scanning.{AllArePassed, IsPassed}
 
-pub none_passed : (kind : Kind) (b k : ℕ) → AllArePassed false kind b k []
-none_passed kind b k p less = absurd (omega (arith, less))
-
 -- those that show the key's place or do not, and decide nothing, leave it open what is to be done
 pub is_open : (is_placed : Bool) (kind : Kind) (b k : ℕ) (seen : List ℕ) → AllArePassed is_placed kind b k seen → IsLeftOpenBy kind b k seen []
 is_open false Insert b k seen all = inl all

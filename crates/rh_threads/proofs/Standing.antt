@@ -21,6 +21,10 @@ use Rattle.rh_run.proofs.Stepping.{worker_claims}
 use Rattle.rh_threads.specs.Keys.{Furthers}
 use Rattle.rh_threads.specs.Hands.{Answer, Past, HandStands, answer, keys_done, left_over, positions_of, progress_by, told_of}
 use Rattle.rh_threads.specs.declared.hand.Hand.{Hand}
+use Rattle.rh_shared.specs.declared.seat.Seat.{Seat}
+use Rattle.rh_shared.specs.declared.table.Table.{Table}
+use Rattle.rh_threads.specs.Crew.{WorksOn}
+use Rattle.rh_threads.proofs.Keying.{stays_on}
 
 -- ---- the positions that it claimed
 
@@ -170,3 +174,8 @@ module _ (z : Shape) (keys : List ℕ) (past : Past) (h then : Hand) (v next : V
 
         keys_are : keys_done keys answers ≡ keys_done keys was.answers ++ key ∷ []
         keys_are = map_push (λ (a : Answer). slice_index keys a.position) was.answers (answer h.position told) ∙ ap (λ (k : ℕ). keys_done keys was.answers ++ k ∷ []) is
+
+-- ---- one call after the other
+
+pub works_on : {t : Table} {keys : List ℕ} {h i j : Hand} {s u w : Seat} → WorksOn t keys h s i u → WorksOn t keys i u j w → WorksOn t keys h s j w
+works_on a b = record { stays = stays_on a.stays.same b.stays; hand = b.hand; stands = λ past was. b.stands past (a.stands past was) }

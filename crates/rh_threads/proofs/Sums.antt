@@ -1,14 +1,16 @@
 -- What all hands have counted, and what they have marked.
-use Rattle.std.proofs.Common.{◌≡◌, ℕ, zero, suc, ◌+◌, ◌<◌, ◌≤◌, ◌⊎◌, inl, inr, ⊎_elim, Bool, true, false, true≢false, List, [], ◌∷◌, length, map, refl, sym, ap, ◌∙◌, subst, arith}
+use Rattle.std.proofs.Common.{◌≡◌, ℕ, zero, suc, ◌+◌, ◌<◌, ◌≤◌, ◌⊎◌, ⊎_elim, Bool, true, false, true≢false, List, [], ◌∷◌, length, get_or, map, refl, sym, ap, ◌∙◌, subst, arith}
 use Rattle.std.specs.Prelude.{◌||◌, slice_index_or}
 use Rattle.std.specs.List.{Contains}
 use mathlib.Core.Option.{some, some-injective, some-ne-none}
 use lib.ListN.{get_elem?}
+use Rattle.std.proofs.lemmas.List.{get_or-map}
 use Rattle.rh_layout.specs.Layout.{Keys}
 use Rattle.rh_ledger.specs.declared.tally.Kind.{Kind}
 use Rattle.rh_ledger.specs.declared.tally.Kind.TheVariants.{Insert, Remove, Ask}
 use Rattle.rh_ledger.specs.declared.tally.Tally.{Tally}
 use Rattle.rh_ledger.specs.Phase.{tally_of}
+use Rattle.rh_world.proofs.Updated.{same_nat}
 use Rattle.rh_acts.specs.Workers.{counted, how_many, sum_of_all}
 use Rattle.rh_ledger.specs.Tally.{tally_by}
 use Rattle.rh_acts.proofs.ActLemmas.{contains_cases, contains_head, contains_none, contains_tail}
@@ -28,17 +30,12 @@ sum_shift f (suc n) =
     let h : sum_below f n + f n ≡ f 0 + sum_below (λ v. f (suc v)) n = sum_shift f n in
     let g : (sum_below f n + f n) + f (suc n) ≡ f 0 + (sum_below (λ v. f (suc v)) n + f (suc n)) = omega (arith, h) in g
 
-below_or : (v n : ℕ) → v < suc n → (v < n) ⊎ (v ≡ n)
-below_or v zero less = inr (omega (arith, less))
-below_or zero (suc n) less = inl (omega arith)
-below_or (suc v) (suc n) less = ⊎_elim (λ (h : v < n). inl (omega (arith, h))) (λ (e : v ≡ n). inr (ap suc e)) (below_or v n (omega (arith, less)))
-
 pub one_of_sum : (f : ℕ → ℕ) (n v : ℕ) → v < n → f v ≤ sum_below f n
 one_of_sum f zero v less = absurd (omega (arith, less))
 one_of_sum f (suc n) v less = ⊎_elim
-    (λ (l : v < n). let h : f v ≤ sum_below f n = one_of_sum f n v l in let g : f v ≤ sum_below f n + f n = omega (arith, h) in g)
     (λ (e : v ≡ n). subst (λ (u : ℕ). f u ≤ sum_below f n + f n) (sym e) (let g : f n ≤ sum_below f n + f n = omega arith in g))
-    (below_or v n less)
+    (λ ne. let h : f v ≤ sum_below f n = one_of_sum f n v (omega (arith, less, ne)) in let g : f v ≤ sum_below f n + f n = omega (arith, h) in g)
+    (same_nat v n)
 
 pub all_changed_is : (hs : List Hand) (f : ℕ → ℕ) → ((v : ℕ) (h : Hand) → get_elem? hs v ≡ some h → h.changed ≡ f v) → all_changed hs ≡ sum_below f (length hs)
 all_changed_is [] f each = refl
@@ -97,23 +94,9 @@ same_truth false false to back = refl
 
 -- ---- lists that are made alike
 
-tail : List Bool → List Bool
-tail [] = []
-tail (x ∷ xs) = xs
-
-first_of : (b c : Bool) (m n : List Bool) → b ∷ m ≡ c ∷ n → b ≡ c
-first_of b c m n e = ap (λ (l : List Bool). slice_index_or l 0 b) e
-
-rest_of : (b c : Bool) (m n : List Bool) → b ∷ m ≡ c ∷ n → m ≡ n
-unfolding tail
-rest_of b c m n e = ap tail e
-
 pub alike_at : {A : Type 0} (f g : A → Bool) (l : List A) (a : A) → map f l ≡ map g l → Contains l a → f a ≡ g a
-alike_at f g [] a same h = absurd (contains_none a h)
-alike_at {A} f g (x ∷ xs) a same h = ⊎_elim
-    (λ (e : x ≡ a). subst (λ (y : A). f y ≡ g y) e (first_of (f x) (g x) (map f xs) (map g xs) same))
-    (λ later. alike_at f g xs a (rest_of (f x) (g x) (map f xs) (map g xs) same) later)
-    (contains_cases x a xs h)
+alike_at f g l a same h =
+    sym (get_or-map f l h.0 a (f a) h.1 ∙ ap f h.2) ∙ ap (λ (m : List Bool). get_or m h.0 (f a)) same ∙ get_or-map g l h.0 a (f a) h.1 ∙ ap g h.2
 
 pub of_mapped : {A : Type 0} (f : A → ℕ) (l : List A) (n : ℕ) → Contains (map f l) n → (a : A) × Contains l a × (f a ≡ n)
 of_mapped f [] n h = absurd (contains_none n h)

@@ -3,16 +3,36 @@ use Rattle.std.specs.Prelude.{◌≡◌, ℕ, ◌+◌, ◌<◌, true, false, min
 use Rattle.rh_bytes.specs.Counting.{last_count}
 use Rattle.rh_layout.specs.Key.{IsKey}
 use Rattle.rh_shared.specs.Crews.{SitsAt, IsCut, IsFresh, IsQuiet, views_of}
+use Rattle.rh_shared.specs.Rests.{SeatRests, StaysAtRest}
+use Rattle.rh_shared.specs.Seats.{view_of}
+use Rattle.rh_shared.specs.declared.seat.Seat.{Seat}
 use Rattle.rh_shared.specs.declared.table.Table.{Table}
 use Rattle.rh_rule.specs.Seats.{InView}
-use Rattle.rh_threads.specs.Hands.{AllStand, HasStopped, InPairs, IsHand, Past}
+use Rattle.rh_threads.specs.Hands.{AllStand, HandStands, HasStopped, InPairs, IsHand, Past}
 use Rattle.rh_threads.specs.declared.crew.Crew.{Crew}
+use Rattle.rh_threads.specs.declared.hand.Hand.{Hand}
 use Rattle.rh_runner.specs.declared.runner.PhaseFault.{PhaseFault}
 use Rattle.rh_runner.specs.declared.runner.PhaseFault.TheVariants.{Memory, NoThread}
 use Rattle.rh_threads.specs.declared.fault.Fault.{Fault}
 use Rattle.rh_threads.specs.declared.fault.Fault.TheVariants as faults
 use Rattle.rh_threads.specs.declared.crew.Refused.{Refused}
 use Rattle.rh_threads.specs.declared.crew.Refused.TheVariants.{NotAllowed, NotStarted}
+
+-- ---- one worker
+
+-- it rests at its seat, with its hand, at a list of so many keys as the table says
+pub record IsAtWork (t : Table) (keys : List ℕ) (h : Hand) (s : Seat) : Type 0 where
+  pub rests : SeatRests t s
+  pub hand : IsHand t.shape keys h (view_of s)
+  pub list : t.shape.keys ≡ length keys
+
+-- It rests again. Whatever it had done of the list, it has come as far as its hand says.
+pub record WorksOn (t : Table) (keys : List ℕ) (h : Hand) (s : Seat) (next : Hand) (then : Seat) : Type 0 where
+  pub stays : StaysAtRest t s then
+  pub hand : IsHand t.shape keys next (view_of then)
+  pub stands : (past : Past) → HandStands t.shape keys past h (view_of s) → HandStands t.shape keys past next (view_of then)
+
+-- ---- several
 
 -- it sits at the table, each worker with its hand, at a list of keys of which each is claimed once
 pub record IsCrew (t : Table) (keys : List ℕ) (c : Crew) : Type 0 where
@@ -42,27 +62,31 @@ pub record AreHalves (c left right : Crew) : Type 0 where
   pub left_hands : left.hands ≡ take left.seat.count c.hands
   pub right_hands : right.hands ≡ drop left.seat.count c.hands
 
+-- each of which can work
+pub record CutsInHalves (t : Table) (keys : List ℕ) (c left right : Crew) : Type 0 where
+  pub halves : AreHalves c left right
+  pub left_can : CanWork t keys left
+  pub right_can : CanWork t keys right
+
 -- of so many workers each after the first may have a thread
 abbrev pub AllMayStart : (allows : ℕ → Bool) → (first count : ℕ) → Type 0
 AllMayStart allows first count = (w : ℕ) → first < w → w < first + count → allows w ≡ true
-
-abbrev pub OthersMayStart : (allows : ℕ → Bool) → Crew → Type 0
-OthersMayStart allows c = AllMayStart allows c.seat.side.worker c.seat.count
 
 -- Why they did not: one is not allowed to start, or the system refused the thread of one that is.
 abbrev pub RefusedBy : (allows : ℕ → Bool) → Refused → Type 0
 RefusedBy allows (NotAllowed worker) = allows worker ≡ false
 RefusedBy allows (NotStarted worker) = allows worker ≡ true
 
--- Why a phase was not carried out: for want of memory, or one of several workers was refused a thread.
-abbrev pub IsFault : (allows : ℕ → Bool) → (workers : ℕ) → Fault → Type 0
-IsFault allows workers faults.Memory = Unit {0}
-IsFault allows workers (faults.Refused why) = (1 < workers) × RefusedBy allows why
+-- What is answered of these workers: each after the first may start, or one of several was refused a thread.
+abbrev pub Heeds : {A : Type 0} → (allows : ℕ → Bool) → (first count : ℕ) → Result A Refused → Type 0
+Heeds allows first count (Ok x) = AllMayStart allows first count
+Heeds allows first count (Err why) = (1 < count) × RefusedBy allows why
 
--- An answer is given where each worker after the first may start; a fault tells why a phase was not carried out.
-abbrev pub Heeds : {A : Type 0} → (allows : ℕ → Bool) → (workers : ℕ) → Result A Fault → Type 0
-Heeds allows workers (Ok x) = AllMayStart allows 0 workers
-Heeds allows workers (Err fault) = IsFault allows workers fault
+-- so of a phase, for which there may be too little memory
+abbrev pub HeedsInPhase : {A : Type 0} → (allows : ℕ → Bool) → (workers : ℕ) → Result A Fault → Type 0
+HeedsInPhase allows workers (Ok x) = AllMayStart allows 0 workers
+HeedsInPhase allows workers (Err faults.Memory) = Unit {0}
+HeedsInPhase allows workers (Err (faults.Refused why)) = (1 < workers) × RefusedBy allows why
 
 -- what is told of it
 abbrev pub told_as : Fault → PhaseFault

@@ -62,6 +62,11 @@ pub record IsUndone (z : Shape) (kind : Kind) (k : ℕ) (v next : View) : Type 0
   pub opening : next.opening ≡ v.opening
   pub furthers : Furthers z kind k v next None
 
+-- so far it only read, and opened no descriptor
+pub record HasOnlyRead (z : Shape) (kind : Kind) (k : ℕ) (v next : View) : Type 0 where
+  pub undone : IsUndone z kind k v next
+  pub unopened : next.next_number ≡ v.next_number
+
 -- it did the key, as one of those that it has to do
 pub record IsDoneSo (z : Shape) (kind : Kind) (k : ℕ) (v next : View) (told : Bool) : Type 0 where
   pub claims : next.side.claims ≡ v.side.claims
@@ -91,10 +96,9 @@ LeadsTo z kind k room v next entries (scanned.Acts p) = IsPlan kind z.bits k ent
 LeadsTo z kind k room v next entries scanned.Longer = LeavesOpen z kind k room v next
 LeadsTo z kind k room v next entries scanned.Spent = z.rooms.marks ≤ next.marks_used
 
--- It opens no descriptor.
 pub record IsScannedSo {R : Type 0} (task : Task R) (room : ℕ) (s then : Seat) (entries : List Entry) (to : Scanned) : Type 0 where
-  pub undone : IsUndoneYet task s then
-  pub unopened : (view_of then).next_number ≡ (view_of s).next_number
+  pub reads : HasOnlyRead task.table.now.shape task.kind task.key (view_of s) (view_of then)
+  pub open reads use *
   pub leads : LeadsTo task.table.now.shape task.kind task.key room (view_of s) (view_of then) entries to
 
 -- What came of a try, with room for so many cells. Each that is made again has used up a number of a descriptor.

@@ -13,12 +13,9 @@ use Rattle.rh_words.specs.declared.limits.TheConstants.{MAX_ROOM, MAX_WORKERS}
 use Rattle.rh_words.specs.declared.shape.Rooms.{Rooms}
 use Rattle.rh_words.specs.declared.shape.Shape.{Shape}
 use Rattle.rh_threads.specs.Buffer.{HasBufferRoom}
-use Rattle.rh_shared.specs.Crews.{HasAll, IsQuiet, views_of}
+use Rattle.rh_shared.specs.Crews.{views_of}
 use Rattle.rh_shared.specs.declared.table.Table.{Table}
-use Rattle.rh_rule.specs.Seats.{InView}
-use Rattle.rh_threads.specs.Crew.{IsCrew}
-use Rattle.rh_threads.specs.Hands.{IsFinished}
-use Rattle.rh_threads.specs.Rounds.{Comes, Setting, all_changed, at_table, is_marked}
+use Rattle.rh_threads.specs.Rounds.{AreDone, Comes, Setting, all_changed, at_table, is_marked}
 use Rattle.rh_threads.specs.declared.crew.Crew.{Crew}
 use Rattle.rh_threads.specs.declared.hand.Hand.{Hand}
 use Rattle.rh_threads.specs.declared.phase.Phase.{Phase}
@@ -81,10 +78,8 @@ pub record HasWorkedOut (ph : Setting) (values : List ℕ) (hs : List Hand) : Ty
 -- The workers of the table have done all keys of the list, in as many rounds as that took, and are at rest.
 pub record IsWorkedOut (ph : Setting) (t : Table) (c : Crew) : Type 0 where
   pub shape_is : t.shape ≡ ph.shape
-  pub crew : IsCrew t ph.keys c
-  pub all : HasAll t c.seat
-  pub quiet : InView IsQuiet (views_of c.seat)
-  pub finished : All IsFinished c.hands
+  pub done : AreDone t ph.keys c
+  pub open done use *
   pub comes : Comes (at_table t ph.keys ph) (views_of c.seat) c.hands
 
 -- The new cells are the one layout of the old ones' set after the keys, and this is the tally of one worker.

@@ -1,5 +1,5 @@
 -- How far the workers of a phase have come, over its rounds, and what they made.
-use Rattle.std.specs.Prelude.{ℕ, ◌+◌, ◌||◌, Bool, false, All, List, [], ◌∷◌, slice_index_or}
+use Rattle.std.specs.Prelude.{◌≡◌, ℕ, ◌+◌, ◌<◌, ◌||◌, Bool, false, All, List, [], ◌∷◌, length, slice_index_or}
 use Rattle.rh_ledger.specs.declared.tally.Kind.{Kind}
 use Rattle.rh_acts.specs.Workers.{own}
 use Rattle.rh_rule.specs.declared.rule.Sitter.{Sitter}
@@ -53,13 +53,16 @@ pub record Comes (ph : Setting) (vs : List Sitter) (hs : List Hand) : Type 0 whe
   pub run : RunInvariant (run_of ph words keep done told)
   pub stands : AllStand ph.shape ph.keys (past_of ph.positions run) vs hs
 
--- All workers of the table have done all keys that they claimed, and found the end of the list. They came so far from where
--- they were.
+-- all workers of the table are at rest; they have done all keys that they claimed, and found the end of the list
+pub record AreDone (t : Table) (keys : List ℕ) (c : Crew) : Type 0 where
+  pub crew : IsCrew t keys c
+  pub all : HasAll t c.seat
+  pub quiet : InView IsQuiet (views_of c.seat)
+  pub finished : All IsFinished c.hands
+
+-- They came so far from where they were.
 pub record HaveDone (t : Table) (keys : List ℕ) (c then : Crew) : Type 0 where
-  pub crew : IsCrew t keys then
-  pub all : HasAll t then.seat
-  pub quiet : InView IsQuiet (views_of then.seat)
-  pub finished : All IsFinished then.hands
+  pub done : AreDone t keys then
   pub comes : (ph : Setting) → Comes (at_table t keys ph) (views_of c.seat) c.hands → Comes (at_table t keys ph) (views_of then.seat) then.hands
 
 -- ---- what all hands say
@@ -73,3 +76,8 @@ all_changed (h ∷ hs) = h.changed + all_changed hs
 abbrev pub is_marked : List Hand → (position : ℕ) → Bool
 is_marked [] p = false
 is_marked (h ∷ hs) p = slice_index_or h.found.items p false || is_marked hs p
+
+-- a position is marked now where it was, or where this says so
+pub record AddsMarks (says : ℕ → Bool) (old new : List Bool) : Type 0 where
+  pub long : length new ≡ length old
+  pub marked : (p : ℕ) → p < length old → slice_index_or new p false ≡ (slice_index_or old p false || says p)

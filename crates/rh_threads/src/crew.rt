@@ -4,7 +4,8 @@ ghost use Rattle.std.specs.Prelude.{◌≡◌, ◌+◌, ◌<◌, ◌++◌, IfErr
 ghost use Rattle.std.specs.Thread.{IsSync};
 ghost use Rattle.rh_shared.specs.Crews.{SitsAt, IsJoined, IsQuiet, views_of};
 ghost use Rattle.rh_rule.specs.Seats.{InView};
-ghost use Rattle.rh_threads.specs.Crew.{AreHalves, CanWork, HaveWorked, OthersMayStart, RefusedBy};
+ghost use Rattle.rh_threads.specs.Crew.{AllMayStart, CanWork, CutsInHalves, HaveWorked};
+ghost use Rattle.rh_threads.specs.Crew.{Heeds, RefusedBy};
 
 use crate::gate::Gate;
 use crate::hand::Hand;
@@ -71,17 +72,15 @@ struct HalfOf<'a, S> {
 
 impl<'a, S: Starts> Promise<Result<Crew, Refused>> for HalfOf<'a, S> {
     ghost kept_by = { λ p r. IfOk r (HaveWorked p.table.now p.keys.now p.crew.value)
-        × OnOk r (OthersMayStart (S.allows p.starts.now) p.crew.value)
-        × IfErr r (RefusedBy (S.allows p.starts.now)) };
+        × Heeds (S.allows p.starts.now) p.crew.value.seat.side.worker
+        p.crew.value.seat.count r };
 }
 
 /// The first half of the workers, and the others.
 fn cut(table: &Table, keys: &[u64], crew: Crew) -> (Crew, Crew)
     requires many { 1 < crew.seat.count }
     requires can { CanWork table.now keys.now crew }
-    ensures left { CanWork table.now keys.now result.0 }
-    ensures right { CanWork table.now keys.now result.1 }
-    ensures halves { AreHalves crew result.0 result.1 }
+    ensures { CutsInHalves table.now keys.now crew result.0 result.1 }
 {
     let Crew {
         mut seat,
@@ -139,9 +138,8 @@ pub(crate) fn run<R: Threads + Wait + Sync, G: Gate + Sync, S: Starts + Sync>(
 ) -> Result<Crew, Refused>
     requires can { CanWork table.now keys.now crew }
     ensures worked { IfOk result (HaveWorked table.now keys.now crew) }
-    ensures allowed { OnOk result (OthersMayStart (S.allows starts.now) crew) }
-    ensures refused { IfErr result (RefusedBy (S.allows starts.now)) }
-    ensures several { OnErr result (1 < crew.seat.count) }
+    ensures starts { Heeds (S.allows starts.now) crew.seat.side.worker crew.seat.count
+        result }
 {
     if crew.seat.count == 1 {
         return Ok(work(rt, table, crew, keys, gate));
@@ -159,8 +157,9 @@ pub(crate) fn run<R: Threads + Wait + Sync, G: Gate + Sync, S: Starts + Sync>(
                 × CanWork table.now keys.now right × (S.allows starts.now at ≡ true) }
             ensures { IfOk result (λ r. HaveWorked table.entry.now keys.entry.now left r.0
                 × HaveWorked table.entry.now keys.entry.now right r.1)
-                × OnOk result (OthersMayStart (S.allows starts.entry.now) left
-                × OthersMayStart (S.allows starts.entry.now) right)
+                × OnOk result (AllMayStart (S.allows starts.entry.now) left.seat.side.worker
+                left.seat.count × AllMayStart (S.allows starts.entry.now) right.seat.side.worker
+                right.seat.count)
                 × IfErr result (RefusedBy (S.allows starts.entry.now)) }
         {
             let promise = HalfOf {
@@ -175,8 +174,8 @@ pub(crate) fn run<R: Threads + Wait + Sync, G: Gate + Sync, S: Starts + Sync>(
                     requires { IsSync R.row × IsSync G.row × IsSync S.row
                         × CanWork table.now keys.now right }
                     ensures { IfOk result (HaveWorked table.entry.now keys.entry.now right)
-                        × OnOk result (OthersMayStart (S.allows starts.entry.now) right)
-                        × IfErr result (RefusedBy (S.allows starts.entry.now)) }
+                        × Heeds (S.allows starts.entry.now) right.seat.side.worker
+                        right.seat.count result }
                 { run(rt, table, right, keys, gate, starts) },
             );
             match started {

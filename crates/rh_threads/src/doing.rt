@@ -1,9 +1,9 @@
 //! The keys of one worker, each to its end.
 
-ghost use Rattle.std.specs.Prelude.{◌≡◌, All, IsFalse, IsTrue, length, true};
+ghost use Rattle.std.specs.Prelude.{◌≡◌, All, IsFalse, IsTrue, true};
 ghost use Rattle.rh_layout.specs.Key.{IsKey};
-ghost use Rattle.rh_shared.specs.Rests.{SeatRests, StaysAtRest};
-ghost use Rattle.rh_threads.specs.Hands.{HasStopped, IsFinished, IsHand, Past, HandStands};
+ghost use Rattle.rh_threads.specs.Crew.{IsAtWork, WorksOn};
+ghost use Rattle.rh_threads.specs.Hands.{HasStopped, IsFinished};
 ghost use Rattle.rh_shared.specs.Seats.{view_of};
 
 use crate::gate::Gate;
@@ -22,15 +22,10 @@ pub(crate) fn do_keys<R: Wait, G: Gate>(
     keys: &[u64],
     gate: &G,
 )
-    requires rests { SeatRests table.now seat.old }
-    requires hand { IsHand table.now.shape keys.now hand.old (view_of seat.old) }
-    requires keys { (table.now.shape.keys ≡ length keys.now) × All IsKey keys.now }
-    ensures stays { StaysAtRest table.now seat.old seat.new }
-    ensures hand { IsHand table.now.shape keys.now hand.new (view_of seat.new) }
+    requires at { IsAtWork table.now keys.now hand.old seat.old }
+    requires keys { All IsKey keys.now }
+    ensures works { WorksOn table.now keys.now hand.old seat.old hand.new seat.new }
     ensures stopped { HasStopped table.now.shape hand.new (view_of seat.new) }
-    ensures stands { (past : Past) →
-        HandStands table.now.shape keys.now past hand.old (view_of seat.old) →
-        HandStands table.now.shape keys.now past hand.new (view_of seat.new) }
 {
     for _ in rt.forever() {
         if !next_key(table, seat, hand, keys, gate) {
@@ -61,16 +56,10 @@ fn next_key<G: Gate>(
     keys: &[u64],
     gate: &G,
 ) -> bool
-    requires rests { SeatRests table.now seat.old }
-    requires hand { IsHand table.now.shape keys.now hand.old (view_of seat.old) }
-    requires keys { table.now.shape.keys ≡ length keys.now }
-    ensures stays { StaysAtRest table.now seat.old seat.new }
-    ensures hand { IsHand table.now.shape keys.now hand.new (view_of seat.new) }
+    requires at { IsAtWork table.now keys.now hand.old seat.old }
+    ensures works { WorksOn table.now keys.now hand.old seat.old hand.new seat.new }
     ensures has_key { IsTrue result → hand.new.has_key ≡ true }
     ensures finished { IsFalse result → IsFinished hand.new }
-    ensures stands { (past : Past) →
-        HandStands table.now.shape keys.now past hand.old (view_of seat.old) →
-        HandStands table.now.shape keys.now past hand.new (view_of seat.new) }
 {
     if hand.has_key {
         return true;

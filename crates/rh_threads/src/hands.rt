@@ -1,8 +1,8 @@
 //! The hands of all workers: as a phase begins, and what they say at its end.
 
-ghost use Rattle.std.specs.Prelude.{◌≡◌, ℕ, ◌-◌, ◌^◌, ◌<◌, ◌||◌, false, min, IfOk, length, slice_index_or};
+ghost use Rattle.std.specs.Prelude.{◌≡◌, ◌-◌, ◌^◌, false, min, IfOk, slice_index_or};
 ghost use Rattle.rh_threads.specs.Made.{AreNew, IsNew};
-ghost use Rattle.rh_threads.specs.Rounds.{all_changed, is_marked};
+ghost use Rattle.rh_threads.specs.Rounds.{AddsMarks, all_changed, is_marked};
 
 use crate::buffer::Buffer;
 use crate::hand::Hand;
@@ -58,9 +58,7 @@ pub(crate) fn all_changed(hands: LinkedList<Hand>) -> u64
 
 /// Marks each position that one of the hands has marked.
 pub(crate) fn mark_all(hands: LinkedList<Hand>, found: &mut [bool])
-    ensures long { length found.new ≡ length found.old }
-    ensures marked { (p : ℕ) → p < length found.old →
-        slice_index_or found.new p false ≡ (slice_index_or found.old p false || is_marked hands p) }
+    ensures { AddsMarks (is_marked hands) found.old found.new }
 {
     let mut hands = hands;
     while let Some(hand) = hands.pop_front() {
@@ -69,10 +67,7 @@ pub(crate) fn mark_all(hands: LinkedList<Hand>, found: &mut [bool])
 }
 
 fn mark(marks: &[bool], found: &mut [bool])
-    ensures long { length found.new ≡ length found.old }
-    ensures marked { (p : ℕ) → p < length found.old →
-        slice_index_or found.new p
-        false ≡ (slice_index_or found.old p false || slice_index_or marks.now p false) }
+    ensures { AddsMarks (λ p. slice_index_or marks.now p false) found.old found.new }
 {
     let both = marks.len().min(found.len());
     for position in 0..both {

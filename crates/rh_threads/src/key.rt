@@ -130,7 +130,12 @@ impl<R: Wait> Task<'_, R> {
         ensures scans { IsScannedSo self.now (length seen.old) seat.old seat.new entries.new
             result }
     {
-        let Task { rt, table, kind, key } = *self;
+        let Task {
+            rt,
+            table,
+            kind,
+            key,
+        } = *self;
         let bits = table.shape.bits;
         let cells = table.shape.cells();
         let first = home(bits, key);

@@ -31,7 +31,7 @@ impl<'a> Phase<'a> {
     ghost use Rattle.rh_layout.specs.Layout.{IsLayout, keys_of};
     ghost use Rattle.rh_words.specs.declared.limits.TheConstants.{MAX_ROOM};
     ghost use Rattle.rh_ledger.specs.Phase.{looked_up};
-    ghost use Rattle.rh_threads.specs.Crew.{Heeds};
+    ghost use Rattle.rh_threads.specs.Crew.{HeedsInPhase};
     ghost use Rattle.rh_threads.specs.Made.{HasChanged, HasRoomFor, IsWorkedOut, IsWorkers, markable, opened};
 
     /// By so many workers at a table of 2 to the power of `bits` cells, each of which has these rooms
@@ -69,7 +69,7 @@ impl<'a> Phase<'a> {
         requires room { HasRoomFor self.now cells.old.items }
         ensures changed { IfOk result (HasChanged self.now cells.old.items cells.new.items) }
         ensures unchanged { OnErr result (cells.new.items ≡ cells.old.items) }
-        ensures starts { Heeds (S.allows starts.now) self.now.shape.workers result }
+        ensures starts { HeedsInPhase (S.allows starts.now) self.now.shape.workers result }
     {
         let (table, crew) = self.work_out(rt, alloc, cells.as_slice(), gate, starts)?;
         let Crew { seat, hands } = crew;
@@ -90,7 +90,7 @@ impl<'a> Phase<'a> {
         requires room { HasRoomFor self.now cells.now }
         ensures found { IfOk result (λ found.
             found.items ≡ looked_up (keys_of cells.now) self.now.keys.now) }
-        ensures starts { Heeds (S.allows starts.now) self.now.shape.workers result }
+        ensures starts { HeedsInPhase (S.allows starts.now) self.now.shape.workers result }
     {
         let mut found = vec![in alloc; false; self.keys.len()]?;
         let (table, crew) = self.work_out(rt, alloc, cells, gate, starts)?;
@@ -112,7 +112,7 @@ impl<'a> Phase<'a> {
     ) -> Result<(Table, Crew), Fault>
         requires layout { IsLayout self.now.shape.bits cells.now }
         ensures worked { IfOk result (λ r. IsWorkedOut (opened self.now cells.now) r.0 r.1) }
-        ensures starts { Heeds (S.allows starts.now) self.now.shape.workers result }
+        ensures starts { HeedsInPhase (S.allows starts.now) self.now.shape.workers result }
     {
         let hands = new_hands(alloc, &self.shape, self.kind, self.positions())?;
         let (table, seat) = make(alloc, self.shape, cells)?;

@@ -1,8 +1,8 @@
 //! Rounds of work, until all keys of a list are done.
 
-ghost use Rattle.std.specs.Prelude.{◌<◌, ◌↔◌, All, IfErr, IfOk, IsTrue, OnErr, OnOk};
+ghost use Rattle.std.specs.Prelude.{◌↔◌, All, IfOk, IsTrue};
 ghost use Rattle.rh_shared.specs.Crews.{HasAll};
-ghost use Rattle.rh_threads.specs.Crew.{AllMayStart, CanWork, RefusedBy};
+ghost use Rattle.rh_threads.specs.Crew.{CanWork, Heeds};
 ghost use Rattle.rh_threads.specs.Hands.{IsFinished};
 ghost use Rattle.rh_threads.specs.Rounds.{HaveDone};
 
@@ -26,9 +26,7 @@ pub(crate) fn rounds<R: Threads + Wait + Sync, G: Gate + Sync, S: Starts + Sync>
     requires can { CanWork table.now keys.now crew }
     requires all { HasAll table.now crew.seat }
     ensures done { IfOk result (HaveDone table.now keys.now crew) }
-    ensures allowed { OnOk result (AllMayStart (S.allows starts.now) 0 table.now.shape.workers) }
-    ensures refused { IfErr result (RefusedBy (S.allows starts.now)) }
-    ensures several { OnErr result (1 < table.now.shape.workers) }
+    ensures starts { Heeds (S.allows starts.now) 0 table.now.shape.workers result }
 {
     let mut crew = crew;
     for _ in rt.forever() {

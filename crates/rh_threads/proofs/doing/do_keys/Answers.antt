@@ -4,13 +4,11 @@ use Rattle.rh_shared.specs.Seats.{view_of}
 use Rattle.rh_threads.specs.Buffer.{HasBufferRoom}
 use Rattle.rh_threads.specs.Hands.{left_over}
 use Rattle.rh_threads.proofs.Claiming.{among, claims_on}
-use Rattle.rh_threads.proofs.Keying.{same_on}
-use Rattle.rh_threads.proofs.Standing.{stands_done, stands_left}
+use Rattle.rh_threads.proofs.Standing.{stands_done, stands_left, works_on}
 use Rattle.rh_threads.proofs.doing.do_keys.Goals as goal
 
 pub loop-preserved : goal.loop-preserved
 loop-preserved g c =
-    let h = c.loop.invariant in
     let z = c.args.table.now.shape in
     let keys = c.args.keys.now in
     let n = c.next_key.new.hand in
@@ -20,31 +18,21 @@ loop-preserved g c =
     let has : n.has_key ≡ true = c.if-not-next_key.ensures.has_key refl in
     let key = slice_index keys n.position in
     record {
-      rests = e.stays.rests;
-      same = same_on (same_on h.same next.stays.same) e.stays.same;
-      hand = record {
-        room = subst (HasBufferRoom z.bits) (sym c.count.ensures.buffer) e.room;
-        within = λ still. absurd (true≢false (sym still ∙ c.count.ensures.no_key));
-        claims = claims_on z n then (view_of c.next_key.new.seat) (view_of c.do_in_buffer.new.seat) next.hand.claims c.count.ensures.ended e.ends.claims;
-      };
-      stands = λ past was. stands_done z keys past n then (view_of c.next_key.new.seat) (view_of c.do_in_buffer.new.seat) (next.stands past (h.stands past was)) key
-          (among keys n.position key (next.hand.within has) refl) refl c.count.ensures.kind e.ends.claims e.ends.opening has c.in-Some-do_in_buffer.told e.ends.furthers
-          c.count.ensures.no_key c.count.ensures.done c.count.ensures.changed c.count.ensures.found;
+      works = works_on c.loop.invariant.works (works_on next.works (record {
+        stays = e.stays;
+        hand = record {
+          room = subst (HasBufferRoom z.bits) (sym c.count.ensures.buffer) e.room;
+          within = λ still. absurd (true≢false (sym still ∙ c.count.ensures.no_key));
+          claims = claims_on z n then (view_of c.next_key.new.seat) (view_of c.do_in_buffer.new.seat) next.works.hand.claims c.count.ensures.ended e.ends.claims;
+        };
+        stands = λ past was. stands_done z keys past n then (view_of c.next_key.new.seat) (view_of c.do_in_buffer.new.seat) was key
+            (among keys n.position key (next.works.hand.within has) refl) refl c.count.ensures.kind e.ends.claims e.ends.opening has c.in-Some-do_in_buffer.told e.ends.furthers
+            c.count.ensures.no_key c.count.ensures.done c.count.ensures.changed c.count.ensures.found;
+      }));
     }
 
-pub returns-in-None-do_in_buffer-clause-hand : goal.returns-in-None-do_in_buffer-clause-hand
-returns-in-None-do_in_buffer-clause-hand g c =
-    let n = c.next_key.new.hand in
-    let next = c.next_key.ensures in
-    let e = c.in-None-do_in_buffer.ensures in
-    record {
-      room = e.room;
-      within = next.hand.within;
-      claims = claims_on c.args.table.now.shape n _ (view_of c.next_key.new.seat) (view_of c.do_in_buffer.new.seat) next.hand.claims refl e.ends.0.claims;
-    }
-
-pub returns-in-None-do_in_buffer-clause-stands : goal.returns-in-None-do_in_buffer-clause-stands
-returns-in-None-do_in_buffer-clause-stands g c past was =
+pub returns-in-None-do_in_buffer-clause-works : goal.returns-in-None-do_in_buffer-clause-works
+returns-in-None-do_in_buffer-clause-works g c =
     let z = c.args.table.now.shape in
     let keys = c.args.keys.now in
     let n = c.next_key.new.hand in
@@ -52,5 +40,13 @@ returns-in-None-do_in_buffer-clause-stands g c past was =
     let e = c.in-None-do_in_buffer.ensures in
     let has : n.has_key ≡ true = c.if-not-next_key.ensures.has_key refl in
     let key = slice_index keys n.position in
-    stands_left z keys past n _ (view_of c.next_key.new.seat) (view_of c.do_in_buffer.new.seat) (next.stands past (c.loop.invariant.stands past was)) key
-    (among keys n.position key (next.hand.within has) refl) refl refl e.ends.0.claims e.ends.0.opening has e.ends.0.furthers (ap (λ (b : Bool). left_over b n.position) has) refl refl refl
+    works_on c.loop.invariant.works (works_on next.works (record {
+      stays = e.stays;
+      hand = record {
+        room = e.room;
+        within = next.works.hand.within;
+        claims = claims_on z n _ (view_of c.next_key.new.seat) (view_of c.do_in_buffer.new.seat) next.works.hand.claims refl e.ends.0.claims;
+      };
+      stands = λ past was. stands_left z keys past n _ (view_of c.next_key.new.seat) (view_of c.do_in_buffer.new.seat) was key
+          (among keys n.position key (next.works.hand.within has) refl) refl refl e.ends.0.claims e.ends.0.opening has e.ends.0.furthers (ap (λ (b : Bool). left_over b n.position) has) refl refl refl;
+    }))

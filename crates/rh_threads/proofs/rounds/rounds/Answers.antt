@@ -7,10 +7,7 @@ returns-then-are_finished-clause-done g c =
     let t = c.args.table.now in
     let h = c.loop.invariant in
     let w = c.in_ok-crew.ensures.worked in record {
-      crew = w.crew;
-      all = worked_all t c.args.keys.now c.loop.crew c.in_ok-crew.crew h.all w;
-      quiet = w.quiet;
-      finished = c.if-are_finished.ensures.0 refl;
+      done = record { crew = w.crew; all = worked_all t c.args.keys.now c.loop.crew c.in_ok-crew.crew h.all w; quiet = w.quiet; finished = c.if-are_finished.ensures.0 refl };
       comes = λ ph was. worked_comes t c.args.keys.now c.loop.crew c.in_ok-crew.crew h.all w ph (h.comes ph was);
     }
 

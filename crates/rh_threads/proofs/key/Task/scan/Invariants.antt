@@ -5,7 +5,7 @@ use Rattle.rh_run.specs.History.{kept_of}
 use Rattle.rh_shared.specs.Rests.{StaysAtRest}
 use Rattle.rh_shared.specs.Seats.{view_of}
 use Rattle.rh_worker.specs.Reading.{HasScanned}
-use Rattle.rh_threads.specs.Keys.{IsUndoneYet}
+use Rattle.rh_threads.specs.Keys.{HasOnlyRead}
 use Rattle.rh_threads.specs.Scanning.{AllArePassed}
 use Rattle.rh_threads.proofs.key.Task.scan.Given as goal
 
@@ -13,8 +13,7 @@ abbrev pub invariant-loop-count : goal.invariant-loop-count
 invariant-loop-count g l = record {
   within : l.count ≤ length l.fn.seen;
   stays : StaysAtRest l.table l.fn.seat l.seat;
-  unopened : (view_of l.seat).next_number ≡ (view_of l.fn.seat).next_number;
-  undone : IsUndoneYet l.self l.fn.seat l.seat;
+  reads : HasOnlyRead l.table.shape l.kind l.key (view_of l.fn.seat) (view_of l.seat);
   read : HasScanned l.table.shape (kept_of l.table.shape (view_of l.fn.seat)) (view_of l.seat) l.key l.seen l.count;
   passed : AllArePassed l.is_placed l.kind l.bits l.key (take l.count l.seen);
   values : (p : ℕ) → p < l.count → IsValue (slice_index l.seen p);

@@ -15,4 +15,4 @@ returns-clause-found g c =
     let found : c.as_mut_slice.result.now ≡ c.in_ok-found.found.items = c.as_mut_slice.ensures.value in
     let long = e.long ∙ ap length found in
     whole c.in_ok-found.found.len c.mark_all.new.found c.in_ok-found.found.items (long ∙ sym c.in_ok-found.found.ok.0) (sym c.in_ok-found.found.ok.0)
-    ∙ are_answered ph d.0 c.in_ok-table.crew.hands c.as_mut_slice.result.now c.mark_all.new.found c.requires.kind made (ap (λ (kind : Kind). markable kind (length ph.keys)) c.requires.kind) (found ∙ c.in_ok-found.ensures.items_if_clones_equal (λ x h. h)) e.long e.marked
+    ∙ are_answered ph d.0 c.in_ok-table.crew.hands c.as_mut_slice.result.now c.mark_all.new.found c.requires.kind made (ap (λ (kind : Kind). markable kind (length ph.keys)) c.requires.kind) (found ∙ c.in_ok-found.ensures.items_if_clones_equal (λ x h. h)) e

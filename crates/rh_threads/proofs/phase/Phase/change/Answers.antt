@@ -18,7 +18,7 @@ returns-clause-changed g c =
     let b = p.shape.bits in
     let new = c.close.new.cells in
     let made = worked_made (opened p cells.items) c.in_ok-table.table c.in_ok-table.crew new
-        (subst (λ (l : List ℕ). IsWorkedOut (opened p l) c.in_ok-table.table c.in_ok-table.crew) c.as_slice.ensures.value c.in_ok-table.ensures.worked) c.close.ensures c.requires.room.layout c.requires.room.room in
+    (subst (λ (l : List ℕ). IsWorkedOut (opened p l) c.in_ok-table.table c.in_ok-table.crew) c.as_slice.ensures.value c.in_ok-table.ensures.worked) c.close.ensures c.requires.room.layout c.requires.room.room in
     let same = whole cells.len new cells.items (made.layout.size ∙ sym c.requires.room.layout.size ∙ sym cells.ok.0) (sym cells.ok.0) in
     let few = made.few c.requires.kind in
     let changed : c.all_changed.result ≡ all_changed c.in_ok-table.crew.hands = let is = c.all_changed.ensures in omega (arith, few, is) in

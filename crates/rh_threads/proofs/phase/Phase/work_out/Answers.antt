@@ -21,10 +21,7 @@ returns-clause-worked g c =
     let h = c.in_ok-crew.ensures.done in
     record {
       shape_is = e.shape;
-      crew = h.crew;
-      all = h.all;
-      quiet = h.quiet;
-      finished = h.finished;
+      done = h.done;
       comes = h.comes ph (comes_first ph c.in_ok-table.table (record { seat = c.in_ok-table.seat; hands = c.in_ok-hands.hands }) e.shape e.all e.fresh e.views
           (subst (λ n. AreNew p.shape p.kind n c.in_ok-hands.hands) c.positions.ensures c.in_ok-hands.ensures) p.list p.keys_are c.requires.layout.size);
     }
