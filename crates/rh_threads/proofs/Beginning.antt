@@ -37,8 +37,8 @@ use Rattle.rh_threads.specs.Made.{AreNew, IsNew}
 use Rattle.rh_threads.specs.Rounds.{Comes, Setting, at_table, past_of}
 use Rattle.rh_threads.specs.declared.crew.Crew.{Crew}
 use Rattle.rh_threads.specs.declared.hand.Hand.{Hand}
-use Rattle.rh_threads.proofs.Ending.{at_or}
-use Rattle.rh_threads.proofs.Rounding.{all_at}
+use Rattle.rh_threads.proofs.Crews.{at_or}
+use Rattle.rh_threads.proofs.Gathering.{all_at}
 use Rattle.rh_threads.proofs.Sums.{count_in}
 
 -- a cell of a layout holds a value

@@ -1,27 +1,32 @@
 -- Crews that are cut and glued, and what their workers have done.
-use Rattle.std.proofs.Common.{◌≡◌, ℕ, ◌+◌, ◌<◌, ◌≤◌, Bool, true, inl, inr, ⊎_elim, List, [], ◌∷◌, ◌++◌, length, length-append, length-set, length-take-le, get_or, set, take, drop, sym, ap, ◌∙◌, subst, arith}
+use Rattle.std.proofs.Common.{◌≡◌, ℕ, zero, suc, ◌+◌, ◌<◌, ◌≤◌, Bool, true, inl, inr, ⊎_elim, List, [], ◌∷◌, ◌++◌, length, length-append, length-set, length-take-le, get_or, set, take, drop, sym, ap, ◌∙◌, subst, arith}
 use Rattle.std.specs.Prelude.{nat_lt}
 use Rattle.std.proofs.Math.Nat.{eq-or-lt_of_le}
 use Rattle.std.proofs.lemmas.Bool.{cases_Bool}
 use Rattle.std.proofs.lemmas.Bool.Decides.{nat_tests}
-use Rattle.std.proofs.lemmas.List.{length-drop}
-use mathlib.Core.Option.{some, some-injective}
+use Rattle.std.proofs.lemmas.List.{get_or-set_same, length-drop}
+use mathlib.Core.Option.{some, some-ne-none, some-injective}
 use lib.ListN.{get_elem?}
 use Rattle.rh_rule.specs.declared.rule.Sitter.{Sitter}
 use Rattle.rh_words.specs.View.{View}
 use Rattle.rh_rule.specs.Seats.{InView, sitter}
-use Rattle.rh_rule.proofs.SeatsKept.{at_append, at_drop, at_take, one_at, there}
+use Rattle.rh_rule.proofs.SeatsKept.{at_append, at_drop, at_take, item_at, one_at, there}
 use Rattle.rh_shared.specs.Rests.{SeatRests}
 use Rattle.rh_shared.specs.Seats.{trace_of, view_of}
 use Rattle.rh_shared.specs.declared.seat.Seat.{Seat}
 use Rattle.rh_shared.specs.declared.table.Table.{Table}
 use Rattle.rh_shared.specs.Crews.{SitsAt, IsCut, IsFresh, IsJoined, IsQuiet, views_of}
 use Rattle.rh_threads.specs.Crew.{AllMayStart, AreHalves, CanWork, HaveWorked, WorksOn}
-use Rattle.rh_threads.specs.Hands.{AllStand, HasStopped, InPairs, IsHand, Past, HandStands}
+use Rattle.rh_threads.specs.Hands.{HasStopped, InPairs, IsHand, Past, HandStands}
 use Rattle.rh_threads.specs.declared.crew.Crew.{Crew}
 use Rattle.rh_threads.specs.declared.hand.Hand.{Hand}
 
 -- ---- pairs of views and hands
+
+pub at_or : {A : Type 0} (l : List A) (i : ℕ) (a d : A) → get_elem? l i ≡ some a → get_or l i d ≡ a
+at_or [] i a d e = absurd (some-ne-none a (sym e))
+at_or (x ∷ xs) zero a d e = some-injective x a e
+at_or (x ∷ xs) (suc i) a d e = at_or xs i a d e
 
 pairs_left : (P : View → Hand → Type 0) (vs : List Sitter) (hs : List Hand) (n : ℕ) → InPairs P vs hs → InPairs P (take n vs) (take n hs)
 pairs_left P vs hs n each r s h e f = each r s h (at_take n vs r s e).1 (at_take n hs r h f).1
@@ -119,16 +124,8 @@ alone_views s one = ap (λ x. x.0) (s.alone one)
 pub alone_at : (s : Seat) → s.count ≡ 1 → get_elem? (views_of s) 0 ≡ some (sitter (view_of s) (trace_of s))
 alone_at s one = ap (λ (l : List Sitter). get_elem? l 0) (alone_views s one)
 
-first_at : (hs : List Hand) (h : Hand) → 0 < length hs → h ≡ get_or hs 0 h → get_elem? hs 0 ≡ some h
-first_at [] h some_one is = absurd (omega (arith, some_one))
-first_at (x ∷ xs) h some_one is = ap (λ (g : Hand). some g) (sym is)
-
 pub front_at : (c : Crew) (h : Hand) → length c.hands ≡ c.seat.count → c.seat.count ≡ 1 → h ≡ get_or c.hands 0 h → get_elem? c.hands 0 ≡ some h
-front_at c h long one is = first_at c.hands h (omega (arith, long, one)) is
-
-set_first : (hs : List Hand) (h g : Hand) → 0 < length hs → get_elem? (set hs 0 h) 0 ≡ some g → h ≡ g
-set_first [] h g some_one at = absurd (omega (arith, some_one))
-set_first (x ∷ xs) h g some_one at = some-injective h g at
+front_at c h long one is = let it = item_at c.hands 0 (omega (arith, long, one)) in it.1 ∙ ap (λ (g : Hand). some g) (sym (is ∙ at_or c.hands 0 it.0 h it.1))
 
 module _ (t : Table) (keys : List ℕ) (c : Crew) (one : c.seat.count ≡ 1) (can : CanWork t keys c) (seat : Seat) (hand next : Hand) (at : get_elem? c.hands 0 ≡ some hand) where
   pub one_worked : WorksOn t keys hand c.seat next seat → HasStopped t.shape next (view_of seat) → HaveWorked t keys c (record { seat = seat; hands = set c.hands 0 next })
@@ -167,5 +164,5 @@ module _ (t : Table) (keys : List ℕ) (c : Crew) (one : c.seat.count ≡ 1) (ca
       each P p r s h e f =
           let q = here_is r s e in
           let less : 0 < length c.hands = let l = can.crew.long in omega (arith, l, one) in
-          let is_next : next ≡ h = set_first c.hands next h less (subst (λ (i : ℕ). get_elem? (set c.hands 0 next) i ≡ some h) q.0 f) in
+          let is_next : next ≡ h = sym (get_or-set_same c.hands 0 next h less) ∙ at_or (set c.hands 0 next) 0 h h (subst (λ (i : ℕ). get_elem? (set c.hands 0 next) i ≡ some h) q.0 f) in
           subst (λ (g : Hand). P s.view g) is_next (subst (λ (k : Sitter). P k.view next) q.1 p)

@@ -1,12 +1,12 @@
 -- What a phase makes, once all keys of its list are done.
-use Rattle.std.proofs.Common.{◌≡◌, ◌≢◌, ℕ, zero, suc, ◌<◌, min, Bool, true, false, List, [], ◌∷◌, ◌++◌, length, get_or, map, All, sym, ap, ◌∙◌, subst, arith}
+use Rattle.std.proofs.Common.{◌≡◌, ◌≢◌, ℕ, ◌<◌, min, Bool, true, false, List, ◌++◌, length, map, All, sym, ap, ◌∙◌, subst, arith}
 use Rattle.std.specs.Prelude.{◌-◌, ◌^◌, slice_index, slice_index_or}
 use Rattle.std.specs.List.{Contains}
 use Rattle.std.specs.FinSet.{contains}
 use Rattle.std.proofs.lemmas.List.{append-nil, get_or-map, length-map}
 use Rattle.std.proofs.lemmas.List.FromFn.{fill_by_all}
 use Rattle.std.proofs.lemmas.Simd.{map-map}
-use mathlib.Core.Option.{some, some-injective, some-ne-none}
+use mathlib.Core.Option.{some, some-injective}
 use lib.ListN.{get_elem?}
 use Rattle.rh_layout.specs.Layout.{Keys, Layout, keys_of}
 use Rattle.rh_ledger.specs.declared.tally.Kind.TheVariants.{Ask}
@@ -31,13 +31,9 @@ use Rattle.rh_threads.specs.Hands.{Answer, InPairs, IsFinished, IsHand, answer, 
 use Rattle.rh_threads.specs.Made.{HasWorkedOut, first_set}
 use Rattle.rh_threads.specs.Rounds.{Comes, Setting, all_changed, is_marked, run_of}
 use Rattle.rh_threads.specs.declared.hand.Hand.{Hand}
+use Rattle.rh_threads.proofs.Crews.{at_or}
 use Rattle.rh_threads.proofs.Gathering.{Gathered, gathered}
 use Rattle.rh_threads.proofs.Sums.{alike_at, all_changed_is, by_one, count_in, count_sum, marked_by, of_mapped, one_of_sum, same_truth, sum_below, tally_is}
-
-pub at_or : {A : Type 0} (l : List A) (i : ℕ) (a d : A) → get_elem? l i ≡ some a → get_or l i d ≡ a
-at_or [] i a d e = absurd (some-ne-none a (sym e))
-at_or (x ∷ xs) zero a d e = some-injective x a e
-at_or (x ∷ xs) (suc i) a d e = at_or xs i a d e
 
 value_back : (value : ℕ) → value_of (plain_number value) ≡ value
 value_back value = omega arith

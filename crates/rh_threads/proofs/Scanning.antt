@@ -1,5 +1,5 @@
 -- A scan goes on where the cells that it saw decide nothing.
-use Rattle.std.proofs.Common.{◌≡◌, ◌≢◌, ℕ, ◌+◌, ◌^◌, ◌<◌, ◌≤◌, inl, inr, ⊎_elim, Bool, true, false, sym, ◌∙◌, ap, subst, arith, List, [], length, length-set, length-take-le, get_or-take, set, take}
+use Rattle.std.proofs.Common.{◌≡◌, ◌≢◌, ℕ, ◌+◌, ◌^◌, ◌<◌, ◌≤◌, inl, inr, ⊎_elim, Bool, true, false, sym, ◌∙◌, subst, arith, List, [], length, length-set, length-take-le, get_or-take, set, take}
 use Rattle.std.specs.Prelude.{slice_index}
 use Rattle.std.proofs.lemmas.List.{get_or-set_other, get_or-set_same}
 use Rattle.rh_layout.specs.Round.{cell_ahead}

@@ -1,5 +1,5 @@
--- A worker comes as far as its hand says.
-use Rattle.std.proofs.Common.{◌≡◌, ◌≢◌, ℕ, ◌+◌, ◌<◌, ◌≤◌, ⊎_elim, Some, None, Bool, true, false, true≢false, cond, min, refl, sym, ◌∙◌, ap, subst, arith, List, [], ◌∷◌, ◌++◌, length, length-set, filter, reverse, set}
+-- A worker claims its next key, and comes as far as its hand says.
+use Rattle.std.proofs.Common.{◌≡◌, ◌≢◌, ℕ, ◌+◌, ◌<◌, ◌≤◌, ⊎_elim, Some, None, Bool, true, false, true≢false, cond, min, refl, sym, ◌∙◌, ap, subst, arith, List, [], ◌∷◌, ◌++◌, length, length-set, filter, reverse, set, zero, suc, get_or}
 use mathlib.Core.List.{reverse-cons}
 use Rattle.std.specs.Prelude.{◌-◌, ◌^◌, ◌↔◌, nat_lt, count_by, slice_index, slice_index_or}
 use Rattle.std.specs.List.{Contains}
@@ -19,12 +19,15 @@ use Rattle.rh_run.specs.Laws.{furthered}
 use Rattle.rh_run.specs.Run.{Progress, ProgressInvariant}
 use Rattle.rh_run.proofs.Stepping.{worker_claims}
 use Rattle.rh_threads.specs.Keys.{Furthers}
-use Rattle.rh_threads.specs.Hands.{Answer, Past, HandStands, answer, keys_done, left_over, positions_of, progress_by, told_of}
+use Rattle.rh_threads.specs.Hands.{Answer, Past, HandStands, answer, keys_done, left_over, positions_of, progress_by, told_of, HasClaimed}
 use Rattle.rh_threads.specs.declared.hand.Hand.{Hand}
 use Rattle.rh_shared.specs.declared.seat.Seat.{Seat}
 use Rattle.rh_shared.specs.declared.table.Table.{Table}
 use Rattle.rh_threads.specs.Crew.{WorksOn}
 use Rattle.rh_threads.proofs.Keying.{stays_on}
+use Rattle.rh_world.specs.World.{In}
+use Rattle.rh_steps.specs.Own.{IsClear}
+use Rattle.rh_steps.specs.Relies.{Knows}
 
 -- ---- the positions that it claimed
 
@@ -174,6 +177,29 @@ module _ (z : Shape) (keys : List ℕ) (past : Past) (h then : Hand) (v next : V
 
         keys_are : keys_done keys answers ≡ keys_done keys was.answers ++ key ∷ []
         keys_are = map_push (λ (a : Answer). slice_index keys a.position) was.answers (answer h.position told) ∙ ap (λ (k : ℕ). keys_done keys was.answers ++ k ∷ []) is
+
+-- ---- a claim
+
+pub may_claim : (z : Shape) (v : View) → IsClear v → Knows z v → ((n : ℕ) → In n v.side.claims → n < z.keys) → Allowed z v Step.claims
+may_claim z v clear k below = record { worker = k.worker; still = k.still; step = record { closed = clear.own.current; keys = below } }
+
+pub claims_below : (z : Shape) (v next : View) (word : ℕ) → next ≡ noted z v Step.claims word → word < z.keys → ((n : ℕ) → In n v.side.claims → n < z.keys)
+    → (n : ℕ) → In n next.side.claims → n < z.keys
+claims_below z v next word e less below n i = ⊎_elim (λ (is : n ≡ word). subst (λ (m : ℕ). m < z.keys) (sym is) less) (λ j. below n j) (subst (λ (x : View). In n x.side.claims) e i)
+
+pub among : (keys : List ℕ) (n k : ℕ) → n < length keys → slice_index keys n ≡ k → Contains keys k
+among keys n k inside is = (n, inside, here keys n k inside (sym is))
+  where
+    here : (l : List ℕ) (m q : ℕ) → m < length l → q ≡ get_or l m 0 → get_or l m q ≡ q
+    here [] m q less is = absurd (omega arith)
+    here (x ∷ xs) zero q less is = sym is
+    here (x ∷ xs) (suc m) q less is = here xs m q (omega (arith, less)) is
+
+pub claims_on : (z : Shape) (h then : Hand) (v next : View) → HasClaimed z h v → then.ended ≡ h.ended → next.side.claims ≡ v.side.claims → HasClaimed z then next
+claims_on z h then v next was ended claims = record {
+  below = λ e n i. was.below (sym ended ∙ e) n (subst (In n) claims i);
+  ended = λ e. subst (λ (l : List ℕ). (n : ℕ) × In n l × (z.keys ≤ n)) (sym claims) (was.ended (sym ended ∙ e));
+}
 
 -- ---- one call after the other
 

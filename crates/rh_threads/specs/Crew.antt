@@ -18,8 +18,6 @@ use Rattle.rh_threads.specs.declared.fault.Fault.TheVariants as faults
 use Rattle.rh_threads.specs.declared.crew.Refused.{Refused}
 use Rattle.rh_threads.specs.declared.crew.Refused.TheVariants.{NotAllowed, NotStarted}
 
--- ---- one worker
-
 -- it rests at its seat, with its hand, at a list of so many keys as the table says
 pub record IsAtWork (t : Table) (keys : List ℕ) (h : Hand) (s : Seat) : Type 0 where
   pub rests : SeatRests t s
@@ -31,8 +29,6 @@ pub record WorksOn (t : Table) (keys : List ℕ) (h : Hand) (s : Seat) (next : H
   pub stays : StaysAtRest t s then
   pub hand : IsHand t.shape keys next (view_of then)
   pub stands : (past : Past) → HandStands t.shape keys past h (view_of s) → HandStands t.shape keys past next (view_of then)
-
--- ---- several
 
 -- it sits at the table, each worker with its hand, at a list of keys of which each is claimed once
 pub record IsCrew (t : Table) (keys : List ℕ) (c : Crew) : Type 0 where
@@ -55,6 +51,12 @@ pub record HaveWorked (t : Table) (keys : List ℕ) (c then : Crew) : Type 0 whe
   pub quiet : InView IsQuiet (views_of then.seat)
   pub stopped : InPairs (λ v h. HasStopped t.shape h v) (views_of then.seat) then.hands
   pub stands : (past : ℕ → Past) → AllStand t.shape keys past (views_of c.seat) c.hands → AllStand t.shape keys past (views_of then.seat) then.hands
+
+-- its workers are at rest at their seats, each with its hand
+pub record AreResting (t : Table) (c : Crew) : Type 0 where
+  pub here : SitsAt t c.seat
+  pub long : length c.hands ≡ c.seat.count
+  pub quiet : InView IsQuiet (views_of c.seat)
 
 -- the first workers and the others
 pub record AreHalves (c left right : Crew) : Type 0 where

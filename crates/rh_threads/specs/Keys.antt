@@ -51,8 +51,6 @@ pub record HasDone (t : Table) (s : Seat) (bits : ℕ) (kind : Kind) (k : ℕ) (
   pub before : View
   pub so : KeySpec t.shape kind k before (view_of s) told
 
--- ---- on the way to it
-
 -- The worker did not do the key: its own acts are as before, and what it read stands before all that it had read.
 pub record IsUndone (z : Shape) (kind : Kind) (k : ℕ) (v next : View) : Type 0 where
   pub own : own_acts_of next ≡ own_acts_of v
@@ -80,8 +78,6 @@ pub record LeavesOpen (z : Shape) (kind : Kind) (k count : ℕ) (v next : View) 
   pub long : length seen ≡ count
   pub read : HasScanned z (kept_of z v) next k seen count
   pub open_by : IsLeftOpenBy kind z.bits k seen []
-
--- ---- a task
 
 abbrev pub IsUndoneYet : {R : Type 0} → Task R → (s then : Seat) → Type 0
 IsUndoneYet task s then = IsUndone task.table.now.shape task.kind task.key (view_of s) (view_of then)

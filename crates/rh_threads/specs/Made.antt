@@ -46,8 +46,6 @@ pub record AreNew (z : Shape) (kind : Kind) (positions : ℕ) (hs : List Hand) :
   pub long : length hs ≡ z.workers
   pub each : All (IsNew z kind positions) hs
 
--- ---- a phase
-
 -- The cells are a layout, and leave one of them free for each key that may be added, and one more.
 pub record HasRoomFor (p : Phase) (cells : List ℕ) : Type 0 where
   pub layout : IsLayout p.shape.bits cells

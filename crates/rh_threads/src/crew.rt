@@ -1,10 +1,9 @@
 //! The workers of a phase in threads, whose start may be refused.
 
-ghost use Rattle.std.specs.Prelude.{◌≡◌, ◌+◌, ◌<◌, ◌++◌, IfErr, IfOk, OnErr, OnOk, length, true};
+ghost use Rattle.std.specs.Prelude.{◌≡◌, ◌+◌, ◌<◌, ◌++◌, IfErr, IfOk, OnOk, true};
 ghost use Rattle.std.specs.Thread.{IsSync};
-ghost use Rattle.rh_shared.specs.Crews.{SitsAt, IsJoined, IsQuiet, views_of};
-ghost use Rattle.rh_rule.specs.Seats.{InView};
-ghost use Rattle.rh_threads.specs.Crew.{AllMayStart, CanWork, CutsInHalves, HaveWorked};
+ghost use Rattle.rh_shared.specs.Crews.{SitsAt, IsJoined};
+ghost use Rattle.rh_threads.specs.Crew.{AllMayStart, AreResting, CanWork, CutsInHalves, HaveWorked};
 ghost use Rattle.rh_threads.specs.Crew.{Heeds, RefusedBy};
 
 use crate::gate::Gate;
@@ -100,12 +99,8 @@ fn cut(table: &Table, keys: &[u64], crew: Crew) -> (Crew, Crew)
 
 /// All of them again, who are at rest.
 fn glue(table: &Table, left: Crew, right: Crew) -> Crew
-    requires left { SitsAt table.now left.seat }
-    requires right { SitsAt table.now right.seat }
-    requires left_rests { InView IsQuiet (views_of left.seat) }
-    requires right_rests { InView IsQuiet (views_of right.seat) }
-    requires left_long { length left.hands ≡ left.seat.count }
-    requires right_long { length right.hands ≡ right.seat.count }
+    requires left { AreResting table.now left }
+    requires right { AreResting table.now right }
     requires follows { right.seat.side.worker ≡ left.seat.side.worker + left.seat.count }
     ensures here { SitsAt table.now result.seat }
     ensures seats { IsJoined left.seat right.seat result.seat }

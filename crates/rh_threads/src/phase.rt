@@ -32,9 +32,10 @@ impl<'a> Phase<'a> {
     ghost use Rattle.rh_words.specs.declared.limits.TheConstants.{MAX_ROOM};
     ghost use Rattle.rh_ledger.specs.Phase.{looked_up};
     ghost use Rattle.rh_threads.specs.Crew.{HeedsInPhase};
-    ghost use Rattle.rh_threads.specs.Made.{HasChanged, HasRoomFor, IsWorkedOut, IsWorkers, markable, opened};
+    ghost use Rattle.rh_threads.specs.Made.{HasChanged, HasRoomFor, IsWorkedOut, IsWorkers};
+    ghost use Rattle.rh_threads.specs.Made.{markable, opened};
 
-    /// By so many workers at a table of 2 to the power of `bits` cells, each of which has these rooms
+    /// By so many workers at a table of 2 to the power of `bits` cells, where each has these rooms
     /// in a round.
     pub fn new(bits: u32, workers: usize, rooms: Rooms, kind: Kind, keys: &'a [u64]) -> Phase<'a>
         requires bits { IsBits bits }

@@ -3,8 +3,7 @@ use Rattle.std.specs.Prelude.{slice_index}
 use Rattle.rh_shared.specs.Seats.{view_of}
 use Rattle.rh_threads.specs.Buffer.{HasBufferRoom}
 use Rattle.rh_threads.specs.Hands.{left_over}
-use Rattle.rh_threads.proofs.Claiming.{among, claims_on}
-use Rattle.rh_threads.proofs.Standing.{stands_done, stands_left, works_on}
+use Rattle.rh_threads.proofs.Standing.{among, claims_on, stands_done, stands_left, works_on}
 use Rattle.rh_threads.proofs.doing.do_keys.Goals as goal
 
 pub loop-preserved : goal.loop-preserved

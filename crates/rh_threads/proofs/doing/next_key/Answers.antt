@@ -1,8 +1,7 @@
 use Rattle.std.proofs.Common.{ℕ, Bool, refl, rules, sym, ap, ◌∙◌, true≢false, [], ◌∷◌, arith}
 use Rattle.rh_shared.specs.Seats.{view_of}
 use Rattle.rh_threads.specs.Hands.{left_over}
-use Rattle.rh_threads.proofs.Claiming.{claims_below, may_claim}
-use Rattle.rh_threads.proofs.Standing.{stands_claimed, stands_ended}
+use Rattle.rh_threads.proofs.Standing.{claims_below, may_claim, stands_claimed, stands_ended}
 use Rattle.rh_threads.proofs.doing.next_key.Goals as goal
 
 pub claim-requires-clause-keys : goal.claim-requires-clause-keys

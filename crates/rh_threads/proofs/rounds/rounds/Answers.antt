@@ -1,5 +1,5 @@
 use Rattle.std.proofs.Common.{refl}
-use Rattle.rh_threads.proofs.Rounding.{wiped_can, wiped_comes, worked_all, worked_comes}
+use Rattle.rh_threads.proofs.Gathering.{wiped_can, wiped_comes, worked_all, worked_comes}
 use Rattle.rh_threads.proofs.rounds.rounds.Goals as goal
 
 pub returns-then-are_finished-clause-done : goal.returns-then-are_finished-clause-done

@@ -1,4 +1,4 @@
-use Rattle.std.proofs.Common.{◌≡◌, ◌+◌, ◌<◌, ◌^◌, ℕ, Bool, List, length, length-set, true≢false, rules, subst, sym, ◌∙◌, set, take, arith}
+use Rattle.std.proofs.Common.{◌≡◌, ◌+◌, ◌<◌, ℕ, Bool, List, length, length-set, true≢false, rules, subst, sym, ◌∙◌, set, take, arith}
 use Rattle.std.proofs.lemmas.List.{take_all}
 use Rattle.rh_layout.specs.Order.{home_of}
 use Rattle.rh_layout.specs.Round.{cell_ahead}

@@ -1,9 +1,7 @@
 use Rattle.std.proofs.Common.{◌≡◌, ◌∙◌, length, ap, sym}
 use Rattle.rh_ledger.specs.declared.tally.Kind.{Kind}
 use Rattle.rh_threads.specs.Made.{markable, opened}
-use Rattle.rh_threads.proofs.Answering.{are_answered}
-use Rattle.rh_threads.proofs.Closing.{worked_made}
-use Rattle.rh_threads.proofs.Slices.{whole}
+use Rattle.rh_threads.proofs.Closing.{are_answered, worked_made, whole}
 use Rattle.rh_threads.proofs.phase.Phase.ask.Goals as goal
 
 pub returns-clause-found : goal.returns-clause-found

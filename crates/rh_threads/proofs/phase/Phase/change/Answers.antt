@@ -1,4 +1,4 @@
-use Rattle.std.proofs.Common.{◌≡◌, ◌∙◌, List, ℕ, ◌++◌, length, take, drop, ap, refl, subst, sym, arith}
+use Rattle.std.proofs.Common.{◌≡◌, ◌∙◌, List, ℕ, ◌++◌, length, take, drop, ap, subst, sym, arith}
 use Rattle.rh_layout.specs.Layout.{IsLayout, keys_of}
 use Rattle.rh_layout.proofs.LayoutLemmas.{layout_keys, layout_own}
 use Rattle.rh_ledger.specs.Phase.{set_after}
@@ -6,8 +6,7 @@ use Rattle.rh_runner.proofs.CellsLemmas.{only_cells}
 use Rattle.rh_ledger.specs.Tally.{tally_by}
 use Rattle.rh_threads.specs.Made.{IsWorkedOut, opened}
 use Rattle.rh_threads.specs.Rounds.{all_changed}
-use Rattle.rh_threads.proofs.Closing.{worked_made}
-use Rattle.rh_threads.proofs.Slices.{whole}
+use Rattle.rh_threads.proofs.Closing.{worked_made, whole}
 use Rattle.rh_threads.proofs.phase.Phase.change.Goals as goal
 
 pub returns-clause-changed : goal.returns-clause-changed
