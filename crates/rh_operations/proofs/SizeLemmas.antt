@@ -52,3 +52,5 @@ not_sized bits n in_limits none =
 -- a table of this size has a free cell
 pub fits_below : (size n : ℕ) → Fits size n → n < 2 ^ size
 fits_below size n enough = omega (arith, enough, one-le-pow size 2 (omega arith))
+
+pub ruleset size_found = (sized, not_sized, fits_below)

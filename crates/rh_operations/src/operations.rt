@@ -21,7 +21,7 @@ use crate::sets::{add_keys, ask_keys, drop_keys, flip_keys, keep_keys};
 use rh_bytes::Counted;
 use rh_edit::SeqSet;
 use rh_key_files::{KeySource, open_keys, write_keys};
-use rh_runner::{Runner, read_through};
+use rh_runner::{Host, Runner, read_through};
 use rh_script::Action;
 use rh_shelf::Lender;
 use std::alloc::Global;
@@ -54,8 +54,7 @@ pub fn use_file<S: Lender>(alloc: Global, shelf: &mut S, path: &str) -> Result<u
 
 /// Does with the set and the keys of the list what the action says. The list is read once.
 pub fn operate<T: Threads + Wait + Sync, S: Lender, N: Runner>(
-    rt: &T,
-    alloc: Global,
+    host: &Host<'_, T>,
     shelf: &mut S,
     runner: &mut N,
     set: &mut SeqSet,
@@ -76,10 +75,10 @@ pub fn operate<T: Threads + Wait + Sync, S: Lender, N: Runner>(
     ensures leaves { Leaves (outside S.state N.refused_starts shelf.old runner.old)
         (outside S.state N.refused_starts shelf.new runner.new) result }
 {
-    let mut reader = open_list(alloc, shelf, list)?;
+    let mut reader = open_list(host.alloc, shelf, list)?;
     match open_keys(&mut reader) {
         Ok(mut keys) => {
-            match act(rt, alloc, runner, set, list.count, &mut keys, action) {
+            match act(host, runner, set, list.count, &mut keys, action) {
                 Ok(done) => Ok(done),
                 Err(cause) => Err(blame_reader(shelf, keys.reader(), cause)),
             }
@@ -90,8 +89,7 @@ pub fn operate<T: Threads + Wait + Sync, S: Lender, N: Runner>(
 
 /// Does so with keys that come in batches, of which so many were noted.
 fn act<T: Threads + Wait + Sync, N: Runner, K: KeySource>(
-    rt: &T,
-    alloc: Global,
+    host: &Host<'_, T>,
     runner: &mut N,
     set: &mut SeqSet,
     noted: u64,
@@ -107,11 +105,11 @@ fn act<T: Threads + Wait + Sync, N: Runner, K: KeySource>(
         return Err(Cause::Changed);
     }
     match action {
-        Action::Add => add_keys(rt, alloc, runner, set, keys),
-        Action::Drop => drop_keys(rt, alloc, runner, set, keys),
-        Action::Keep => keep_keys(rt, alloc, runner, set, keys),
-        Action::Flip => flip_keys(rt, alloc, runner, set, keys),
-        Action::Ask => ask_keys(rt, alloc, runner, set, keys),
+        Action::Add => add_keys(host, runner, set, keys),
+        Action::Drop => drop_keys(host, runner, set, keys),
+        Action::Keep => keep_keys(host, runner, set, keys),
+        Action::Flip => flip_keys(host, runner, set, keys),
+        Action::Ask => ask_keys(host, runner, set, keys),
     }
 }
 

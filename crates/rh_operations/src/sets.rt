@@ -23,15 +23,13 @@ use rh_key_files::KeySource;
 use rh_layout::MIN_BITS;
 use rh_ledger::{Kind, Tally};
 use rh_report::Change;
-use rh_runner::{Chosen, Runner, ask_all, change_all, choose, take_all};
-use std::alloc::Global;
+use rh_runner::{Chosen, Host, Runner, ask_all, change_all, choose, take_all};
 use std::sync::Wait;
 use std::thread::Threads;
 
 /// The set with these keys too, in a table that has grown for them, and what was counted.
 fn with_keys<T: Threads + Wait + Sync, N: Runner>(
-    rt: &T,
-    alloc: Global,
+    host: &Host<'_, T>,
     runner: &mut N,
     set: &SeqSet,
     keys: &[u64],
@@ -48,16 +46,15 @@ fn with_keys<T: Threads + Wait + Sync, N: Runner>(
     ensures runner { KeepsRunner (N.refused_starts runner.old) (N.refused_starts runner.new)
         result }
 {
-    let mut scratch = grown(alloc, set, keys.len() as u64)?;
+    let mut scratch = grown(host.alloc, set, keys.len() as u64)?;
     let cells = &mut scratch.cells;
-    let tally = runner.change(rt, alloc, Kind::Insert, scratch.bits, cells, keys)?;
+    let tally = runner.change(host.rt, host.alloc, Kind::Insert, scratch.bits, cells, keys)?;
     Ok((SeqSet::from_cells(scratch.bits, scratch.cells), tally))
 }
 
 /// The set without these keys, in a table of the same size, and what was counted.
 fn without_keys<T: Threads + Wait + Sync, N: Runner>(
-    rt: &T,
-    alloc: Global,
+    host: &Host<'_, T>,
     runner: &mut N,
     set: &SeqSet,
     keys: &[u64],
@@ -72,16 +69,15 @@ fn without_keys<T: Threads + Wait + Sync, N: Runner>(
     ensures runner { KeepsRunner (N.refused_starts runner.old) (N.refused_starts runner.new)
         result }
 {
-    let mut scratch = copied(alloc, set)?;
+    let mut scratch = copied(host.alloc, set)?;
     let cells = &mut scratch.cells;
-    let tally = runner.change(rt, alloc, Kind::Remove, scratch.bits, cells, keys)?;
+    let tally = runner.change(host.rt, host.alloc, Kind::Remove, scratch.bits, cells, keys)?;
     Ok((SeqSet::from_cells(scratch.bits, scratch.cells), tally))
 }
 
 /// All keys of a list, and of each whether the set holds it.
 fn look_through<T: Threads + Wait + Sync, N: Runner, K: KeySource>(
-    rt: &T,
-    alloc: Global,
+    host: &Host<'_, T>,
     runner: &mut N,
     set: &SeqSet,
     keys: &mut K,
@@ -96,16 +92,15 @@ fn look_through<T: Threads + Wait + Sync, N: Runner, K: KeySource>(
     ensures runner { KeepsRunner (N.refused_starts runner.old) (N.refused_starts runner.new)
         result }
 {
-    let mut list = vec![in alloc; 0; keys.left() as usize]?;
+    let mut list = vec![in host.alloc; 0; keys.left() as usize]?;
     take_all(keys, &mut list)?;
-    let found = runner.ask(rt, alloc, set.bits(), set.cells(), &list)?;
+    let found = runner.ask(host.rt, host.alloc, set.bits(), set.cells(), &list)?;
     Ok((list, found))
 }
 
 /// Adds the keys of a list.
 pub(crate) fn add_keys<T: Threads + Wait + Sync, N: Runner, K: KeySource>(
-    rt: &T,
-    alloc: Global,
+    host: &Host<'_, T>,
     runner: &mut N,
     set: &mut SeqSet,
     keys: &mut K,
@@ -114,16 +109,15 @@ pub(crate) fn add_keys<T: Threads + Wait + Sync, N: Runner, K: KeySource>(
         (K.coming keys.old) (K.left_of keys.old) (K.told_by keys.new)
         (N.refused_starts runner.old) (N.refused_starts runner.new) result }
 {
-    let mut scratch = grown(alloc, set, keys.left())?;
-    let tally = change_all(rt, alloc, runner, Kind::Insert, &mut scratch, keys)?;
+    let mut scratch = grown(host.alloc, set, keys.left())?;
+    let tally = change_all(host, runner, Kind::Insert, &mut scratch, keys)?;
     *set = SeqSet::from_cells(scratch.bits, scratch.cells);
     Ok(Done::Changed(Change::Added(tally.added)))
 }
 
 /// Takes the keys of a list out.
 pub(crate) fn drop_keys<T: Threads + Wait + Sync, N: Runner, K: KeySource>(
-    rt: &T,
-    alloc: Global,
+    host: &Host<'_, T>,
     runner: &mut N,
     set: &mut SeqSet,
     keys: &mut K,
@@ -132,8 +126,8 @@ pub(crate) fn drop_keys<T: Threads + Wait + Sync, N: Runner, K: KeySource>(
         (K.coming keys.old) (K.left_of keys.old) (K.told_by keys.new)
         (N.refused_starts runner.old) (N.refused_starts runner.new) result }
 {
-    let mut scratch = copied(alloc, set)?;
-    let tally = change_all(rt, alloc, runner, Kind::Remove, &mut scratch, keys)?;
+    let mut scratch = copied(host.alloc, set)?;
+    let tally = change_all(host, runner, Kind::Remove, &mut scratch, keys)?;
     *set = SeqSet::from_cells(scratch.bits, scratch.cells);
     Ok(Done::Changed(Change::Dropped(tally.removed)))
 }
@@ -141,8 +135,7 @@ pub(crate) fn drop_keys<T: Threads + Wait + Sync, N: Runner, K: KeySource>(
 /// Keeps of the set the keys of a list alone, in a table of the least size for as many as the list
 /// has of them.
 pub(crate) fn keep_keys<T: Threads + Wait + Sync, N: Runner, K: KeySource>(
-    rt: &T,
-    alloc: Global,
+    host: &Host<'_, T>,
     runner: &mut N,
     set: &mut SeqSet,
     keys: &mut K,
@@ -151,11 +144,11 @@ pub(crate) fn keep_keys<T: Threads + Wait + Sync, N: Runner, K: KeySource>(
         (K.coming keys.old) (K.left_of keys.old) (K.told_by keys.new)
         (N.refused_starts runner.old) (N.refused_starts runner.new) result }
 {
-    let (mut taken, found) = look_through(rt, alloc, runner, set, keys)?;
+    let (mut taken, found) = look_through(host, runner, set, keys)?;
     let list = taken.as_mut_slice();
     let many = choose(Chosen::Present, &found, list);
-    let empty = SeqSet::new(alloc, MIN_BITS)?;
-    let (kept, _) = with_keys(rt, alloc, runner, &empty, &list[..many])?;
+    let empty = SeqSet::new(host.alloc, MIN_BITS)?;
+    let (kept, _) = with_keys(host, runner, &empty, &list[..many])?;
     *set = kept;
     Ok(Done::Changed(Change::Kept(many as u64)))
 }
@@ -163,8 +156,7 @@ pub(crate) fn keep_keys<T: Threads + Wait + Sync, N: Runner, K: KeySource>(
 /// Takes the keys of a list that the set holds out of it, and adds the others, in a table that has
 /// grown for those.
 pub(crate) fn flip_keys<T: Threads + Wait + Sync, N: Runner, K: KeySource>(
-    rt: &T,
-    alloc: Global,
+    host: &Host<'_, T>,
     runner: &mut N,
     set: &mut SeqSet,
     keys: &mut K,
@@ -173,11 +165,11 @@ pub(crate) fn flip_keys<T: Threads + Wait + Sync, N: Runner, K: KeySource>(
         (K.coming keys.old) (K.left_of keys.old) (K.told_by keys.new)
         (N.refused_starts runner.old) (N.refused_starts runner.new) result }
 {
-    let (mut taken, found) = look_through(rt, alloc, runner, set, keys)?;
+    let (mut taken, found) = look_through(host, runner, set, keys)?;
     let list = taken.as_mut_slice();
-    let (rest, dropped) = without_keys(rt, alloc, runner, set, list)?;
+    let (rest, dropped) = without_keys(host, runner, set, list)?;
     let many = choose(Chosen::Absent, &found, list);
-    let (flipped, added) = with_keys(rt, alloc, runner, &rest, &list[..many])?;
+    let (flipped, added) = with_keys(host, runner, &rest, &list[..many])?;
     *set = flipped;
     let (removed, added) = (dropped.removed, added.added);
     Ok(Done::Changed(Change::Flipped { removed, added }))
@@ -185,8 +177,7 @@ pub(crate) fn flip_keys<T: Threads + Wait + Sync, N: Runner, K: KeySource>(
 
 /// Looks the keys of a list up.
 pub(crate) fn ask_keys<T: Threads + Wait + Sync, N: Runner, K: KeySource>(
-    rt: &T,
-    alloc: Global,
+    host: &Host<'_, T>,
     runner: &mut N,
     set: &SeqSet,
     keys: &mut K,
@@ -195,5 +186,5 @@ pub(crate) fn ask_keys<T: Threads + Wait + Sync, N: Runner, K: KeySource>(
         (K.coming keys.old) (K.left_of keys.old) (K.told_by keys.new)
         (N.refused_starts runner.old) (N.refused_starts runner.new) result }
 {
-    Ok(Done::Asked(ask_all(rt, alloc, runner, set.bits(), set.cells(), keys)?))
+    Ok(Done::Asked(ask_all(host, runner, set.bits(), set.cells(), keys)?))
 }

@@ -13,9 +13,9 @@ use rh_grow::{bits_for, grow};
 use rh_runner::Scratch;
 use std::alloc::{AllocError, Global};
 
-#[tactic(auto, using(crate::proofs::SizeLemmas::sized, crate::proofs::SizeLemmas::not_sized, crate::proofs::SizeLemmas::fits_below))]
 /// A copy of the set's table that takes `more` keys too. Its bits are the least that do, and none
 /// fewer.
+#[tactic(auto, using(crate::proofs::SizeLemmas::size_found))]
 pub(crate) fn grown(alloc: Global, set: &SeqSet, more: u64) -> Result<Scratch, Cause>
     ensures size { IfOk result
         (λ t. size_for set.now.bits (finset.len set.now.keys + more) ≡ Ok t.bits) }

@@ -20,6 +20,7 @@
 
 mod chosen;
 mod fault;
+mod host;
 mod lists;
 mod runner;
 mod scratch;
@@ -27,6 +28,7 @@ mod single;
 
 pub use chosen::{Chosen, choose};
 pub use fault::ListFault;
+pub use host::Host;
 pub use lists::{BATCH, LOOK_UPS, PHASE, ask_all, change_all, read_through, take_all};
 pub use runner::{PhaseFault, Runner};
 pub use scratch::Scratch;

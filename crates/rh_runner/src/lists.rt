@@ -8,6 +8,7 @@ ghost use Rattle.rh_ledger.specs.Phase.{looked_up};
 ghost use Rattle.rh_runner.specs.Lists.{Took, Ran, Refused, TellsKeyFault, may_add};
 
 use crate::fault::ListFault;
+use crate::host::Host;
 use crate::runner::{PhaseFault, Runner};
 use crate::scratch::Scratch;
 use rh_grow::{LOAD_DENOMINATOR, LOAD_NUMERATOR};
@@ -71,8 +72,7 @@ pub fn take_all<K: KeySource>(keys: &mut K, list: &mut [u64]) -> Result<(), KeyF
 
 /// Inserts or removes all keys of a list. On a fault the table may hold some of the changes.
 pub fn change_all<T: Threads + Wait + Sync, N: Runner, K: KeySource>(
-    rt: &T,
-    alloc: Global,
+    host: &Host<'_, T>,
     runner: &mut N,
     kind: Kind,
     scratch: &mut Scratch,
@@ -95,7 +95,7 @@ pub fn change_all<T: Threads + Wait + Sync, N: Runner, K: KeySource>(
 {
     // No count of the tally is greater.
     let most = keys.left();
-    let mut room = phase_room(alloc, most, runner.phase_keys(kind))?;
+    let mut room = phase_room(host.alloc, most, runner.phase_keys(kind))?;
     let batch = room.as_mut_slice();
     let Scratch { bits, cells } = scratch;
     let mut tally = NONE_YET;
@@ -104,15 +104,14 @@ pub fn change_all<T: Threads + Wait + Sync, N: Runner, K: KeySource>(
         if n == 0 {
             return Ok(tally);
         }
-        let told = runner.change(rt, alloc, kind, *bits, cells, &batch[..n])?;
+        let told = runner.change(host.rt, host.alloc, kind, *bits, cells, &batch[..n])?;
         tally = joined(tally, told).unwrap();
     }
 }
 
 /// Looks all keys of a list up, and answers in list order which are there.
 pub fn ask_all<T: Threads + Wait + Sync, N: Runner, K: KeySource>(
-    rt: &T,
-    alloc: Global,
+    host: &Host<'_, T>,
     runner: &mut N,
     bits: u32,
     cells: &[u64],
@@ -131,15 +130,15 @@ pub fn ask_all<T: Threads + Wait + Sync, N: Runner, K: KeySource>(
         N.refused_starts runner.new ≡ N.refused_starts runner.old) }
 {
     let many = keys.left();
-    let mut found = Vec::with_capacity(alloc, many as usize)?;
-    let mut room = phase_room(alloc, many, runner.phase_keys(Kind::Ask))?;
+    let mut found = Vec::with_capacity(host.alloc, many as usize)?;
+    let mut room = phase_room(host.alloc, many, runner.phase_keys(Kind::Ask))?;
     let batch = room.as_mut_slice();
     loop {
         let n = keys.next_keys(batch)?;
         if n == 0 {
             return Ok(found);
         }
-        let answers = runner.ask(rt, alloc, bits, cells, &batch[..n])?;
+        let answers = runner.ask(host.rt, host.alloc, bits, cells, &batch[..n])?;
         found.extend_from_slice(&answers)?;
     }
 }

@@ -21,7 +21,7 @@ use rh_bytes::Counted;
 use rh_edit::SeqSet;
 use rh_layout::MIN_BITS;
 use rh_operations::{Cause, operate};
-use rh_runner::Runner;
+use rh_runner::{Host, Runner};
 use rh_script::{Command, Script, Step};
 use rh_shelf::Lender;
 use std::alloc::Global;
@@ -62,8 +62,9 @@ pub fn run<T: Threads + Wait + Sync, S: Lender, N: Runner, W: Write>(
     };
     let lists = Vec::new(alloc);
     let mut workspace = Workspace { set, lists };
+    let host = Host { rt, alloc };
     for step in script.steps() {
-        let told = carry_out(rt, alloc, shelf, runner, writer, &mut workspace, step);
+        let told = carry_out(&host, shelf, runner, writer, &mut workspace, step);
         if let Err(cause) = told {
             let line = step.line;
             return Err(RunFault { line, cause });
@@ -78,8 +79,7 @@ pub fn run<T: Threads + Wait + Sync, S: Lender, N: Runner, W: Write>(
 
 /// Carries a step out and writes its report.
 fn carry_out<'a, T: Threads + Wait + Sync, S: Lender, N: Runner, W: Write>(
-    rt: &T,
-    alloc: Global,
+    host: &Host<'_, T>,
     shelf: &mut S,
     runner: &mut N,
     writer: &mut Counted<W>,
@@ -89,27 +89,28 @@ fn carry_out<'a, T: Threads + Wait + Sync, S: Lender, N: Runner, W: Write>(
     requires { HasList step.now (length workspace.old.lists.items) }
     ensures step { (named : Named) (files : FileMap) →
         ComesAfter step.now named files workspace.old.lists.items (S.state shelf.old).files →
-        StateEnds (step_in (world_of workspace.old.set named files) (instruction_as step.now.command)
+        StateEnds (step_in (world_of workspace.old.set named files)
+        (instruction_as step.now.command)
         (environment_of S.state N.refused_starts W.contents shelf.old runner.old writer.old)
         (environment_of S.state N.refused_starts W.contents shelf.new runner.new writer.new))
         files workspace.new.set workspace.new.lists.items result }
     ensures grow { OnOk result (ListsGrow (instruction_as step.now.command)
         workspace.old.lists.items workspace.new.lists.items) }
-    ensures unchanged { IfErr result (λ cause. cause ≢ Cause.Write → workspace.new.set ≡ workspace.old.set) }
+    ensures unchanged { IfErr result (λ cause. cause ≢ Cause.Write →
+        workspace.new.set ≡ workspace.old.set) }
     ensures leaves { LeavesAll (outside S.state N.refused_starts shelf.old runner.old)
         (outside S.state N.refused_starts shelf.new runner.new)
         (failures_of writer.old) (failures_of writer.new) result }
 {
-    let told = act(rt, alloc, shelf, runner, workspace, step)?;
+    let told = act(host, shelf, runner, workspace, step)?;
     tell(writer, &workspace.set, &told)?;
     Ok(())
 }
 
 /// Carries a step out, and answers what it has to report.
-#[tactic(auto, using(crate::proofs::StepLemmas::leaves_kept), unfolding(crate::specs::Meaning::outcome_of, rh_script::specs::Plan::number_after))]
+#[tactic(auto, using(crate::proofs::StepLemmas::leaves_kept))]
 fn act<'a, T: Threads + Wait + Sync, S: Lender, N: Runner>(
-    rt: &T,
-    alloc: Global,
+    host: &Host<'_, T>,
     shelf: &mut S,
     runner: &mut N,
     workspace: &mut Workspace<'a>,
@@ -129,11 +130,12 @@ fn act<'a, T: Threads + Wait + Sync, S: Lender, N: Runner>(
         (outside S.state N.refused_starts shelf.new runner.new) result }
     ensures no_write { IfErr result (λ cause. cause ≡ Cause.Write → ⊥) }
 {
+    let alloc = host.alloc;
     match &step.command {
         Command::Use { name, path } => use_step(alloc, shelf, &mut workspace.lists, name, path),
         Command::Act { action, name } => {
             let list = &workspace.lists[step.list.unwrap()];
-            let done = operate(rt, alloc, shelf, runner, &mut workspace.set, list, *action)?;
+            let done = operate(host, shelf, runner, &mut workspace.set, list, *action)?;
             Ok(told_of(&workspace.set, list, name, done))
         }
         Command::Save { name } => save_step(alloc, &workspace.set, &mut workspace.lists, name),

@@ -1,7 +1,7 @@
 use rh_edit::SeqSet;
 use rh_key_files::KeyFault;
 use rh_operations::*;
-use rh_runner::Single;
+use rh_runner::{Host, Single};
 use rh_script::Action;
 use rh_shelf::{MemShelf, Shelf};
 use std::process::Abort;
@@ -17,7 +17,8 @@ fn refused(
     list: &KeyList<'_>,
     action: Action,
 ) -> Option<Cause> {
-    operate(rt, rt.alloc(), shelf, &mut Single, set, list, action).err()
+    let alloc = rt.alloc();
+    operate(&Host { rt, alloc }, shelf, &mut Single, set, list, action).err()
 }
 
 const ACTIONS: &[(Action, &str)] = &[

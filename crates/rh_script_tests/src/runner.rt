@@ -59,7 +59,8 @@ fn change(
     assert!(rt; kind != Kind::Ask);
     let cells = set.into_cells();
     let mut scratch = Scratch { bits: BITS, cells };
-    let told = change_all(rt, rt.alloc(), runner, kind, &mut scratch, list);
+    let alloc = rt.alloc();
+    let told = change_all(&Host { rt, alloc }, runner, kind, &mut scratch, list);
     Ok((told, scratch.cells))
 }
 
@@ -71,7 +72,7 @@ fn look_up(
 ) -> Result<Result<Vec<bool>, ListFault>, Fail> {
     let set = three_keys(rt.alloc())?;
     let (alloc, bits, cells) = (rt.alloc(), set.bits(), set.cells());
-    Ok(ask_all(rt, alloc, runner, bits, cells, list))
+    Ok(ask_all(&Host { rt, alloc }, runner, bits, cells, list))
 }
 
 // The cells are those of the table of these keys.
