@@ -10,7 +10,7 @@ use Rattle.rh_play.specs.declared.play.Play.{Play}
 use Rattle.rh_play_run.specs.declared.draw_fault.DrawFault.{DrawFault}
 use Rattle.rh_play_run.specs.declared.draw_fault.DrawFault.TheVariants as draw
 use Rattle.rh_play_run.specs.declared.fault.PlayRunFault.{PlayRunFault}
-use Rattle.rh_play_run.specs.declared.fault.PlayRunFault.TheVariants.{Read, Text, Start, Memory, Write}
+use Rattle.rh_play_run.specs.declared.fault.PlayRunFault.TheVariants.{Memory}
 use Rattle.rh_play_run.specs.Drawing.{IsDrawnOf, IsRecorded, IsUnchosen, IsUndrawn, IsWindow}
 use Rattle.rh_play_run.specs.Run.{IsPlayRead, IsUnplayed, SaysGoodPlay}
 use Rattle.rh_play_run.proofs.Begun.{can_begin}
@@ -30,16 +30,10 @@ pub good_run : (bytes : Option (List ℕ)) (play : Play) (table : Shape) (cells 
 good_run bytes play table cells records read run = (play, read, can_begin play run.first run.begins)
 
 module _ (bytes : Option (List ℕ)) (from : ℕ) (steps : Option ℕ) (play : Play) (read : IsPlayRead bytes play) where
-  pub undrawn : (fault : PlayRunFault) → IsUnplayed play fault → IsUndrawn bytes from steps (draw.Play fault)
-  undrawn Read why = absurd why
-  undrawn (Text fault) why = absurd why
-  undrawn (Start fault) why = (play, read, why)
-  undrawn Memory why = tt
-  undrawn Write why = absurd why
-
   module _ (table : Shape) (cells : List ℕ) (records those : List Record) (run : IsRecorded play table cells records) (same : those ≡ records) where
     unchosen_of : (fault : DrawFault) → IsUnchosen from steps records fault → IsUndrawn bytes from steps fault
     unchosen_of (draw.Play fault) why = absurd why
+    unchosen_of draw.TooLong why = absurd why
     unchosen_of draw.TooMany why = (play, read, record { table = table; cells = cells; records = records; run = run; why = why })
     unchosen_of draw.NoStep why = (play, read, record { table = table; cells = cells; records = records; run = run; why = why })
 

@@ -1,6 +1,6 @@
 -- How a schedule goes on: each turn, pass and order before what is still to come.
 use Rattle.std.proofs.lemmas.List.{drop_all}
-use Rattle.std.proofs.Common.{suc, ◌≡◌, ℕ, ◌+◌, ◌||◌, Bool, true, false, List, [], ◌∷◌, ◌++◌, length, inl, inr, refl, sym, ap, ◌∙◌, subst, add-one, append_assoc, append-nil, Some, slice_index, get_or, drop, drop-cons, ◌<◌, ◌≤◌, ◌↔◌, IsTrue, IsFalse, Result, Ok, Err, OnOk, Vec, Global}
+use Rattle.std.proofs.Common.{suc, ◌≡◌, ℕ, ◌+◌, ◌||◌, Bool, true, false, List, [], ◌∷◌, ◌++◌, length, inl, inr, refl, sym, ap, ◌∙◌, subst, add-one, append_assoc, append-nil, arith, Some, slice_index, get_or, drop, drop-cons, ◌<◌, ◌≤◌, ◌↔◌, IsTrue, IsFalse, Result, Ok, Err, OnOk, Vec, Global}
 use Rattle.rh_words.specs.declared.steps.StepKind.{StepKind}
 use Rattle.rh_tagword.specs.declared.word.Word.{Word}
 use Rattle.rh_tagword.specs.Word.{word_in}
@@ -15,17 +15,18 @@ use Rattle.rh_play.specs.declared.endings.Last.TheVariants.{Limit}
 use Rattle.rh_play.specs.declared.endings.Rest.{Rest}
 use Rattle.rh_play.specs.Appending.{Prints}
 use Rattle.rh_play.specs.Lines.{raw_line, rest_line, round_line, turn_line, until_line}
+use Rattle.rh_play_run.specs.declared.limits.TheConstants.{MAX_TOLD}
 use Rattle.rh_play_run.specs.declared.log.Log.{Log}
 use Rattle.rh_play_run.specs.declared.log.Telling.{Telling}
 use Rattle.rh_play_run.specs.declared.log.Telling.TheVariants.{Orders, Steps, Records}
 use Rattle.rh_draw.specs.declared.records.Record.{Record}
-use Rattle.rh_play_run.specs.Pieces.{Piece, TellsPieces, piece_records, piece_text, recorded, round_pieces, steps_after, steps_with, told}
+use Rattle.rh_play_run.specs.Pieces.{IsTold, Piece, TellsPieces, one_step_more, piece_records, piece_text, recorded, round_pieces, steps_after, steps_with, told}
 use Rattle.rh_play_run.specs.Schedule.{ATurn, CarriesOut, CarriesOutAll, Misses, Reaches, PassesToRest, RestsWithin, Rounds, StandsAs, TurnOfEach, TurnsOf, TurnsUntil, last_of, makes_step, shown, word_line, words_shown}
 
 -- ---- what is told
 
 pub nothing_told : (log : Log) → TellsPieces log [] log
-nothing_told log = record { telling = refl; text = sym (append-nil log.text.items); records = sym (append-nil log.records.items); steps = refl }
+nothing_told log = record { telling = refl; steps = refl; text = λ _. sym (append-nil log.text.items); records = λ _. sym (append-nil log.records.items) }
 
 told_more : (telling : Telling) (n : ℕ) (ps qs : List Piece) → told telling n (ps ++ qs) ≡ told telling n ps ++ told telling (steps_after n ps) qs
 told_more telling n [] qs = refl
@@ -43,25 +44,43 @@ steps_more : (n : ℕ) (ps qs : List Piece) → steps_after n (ps ++ qs) ≡ ste
 steps_more n [] qs = refl
 steps_more n (p ∷ ps) qs = steps_more (steps_with n p) ps qs
 
+-- the steps are no fewer later
+few : (n : ℕ) (pieces : List Piece) → steps_after n pieces ≤ MAX_TOLD → n ≤ MAX_TOLD
+few n [] within = within
+few n (Piece.step worker kind touched ∷ pieces) within = omega (arith, few (one_step_more n) pieces within)
+few n (Piece.round ∷ pieces) within = few n pieces within
+few n (Piece.lines text ∷ pieces) within = few n pieces within
+
+told_before : (telling : Telling) (n : ℕ) (pieces : List Piece) → IsTold telling (steps_after n pieces) → IsTold telling n
+told_before Orders n pieces within = tt
+told_before Steps n pieces within = few n pieces within
+told_before Records n pieces within = few n pieces within
+
 pub then_tells : (a b c : Log) (ps qs : List Piece) → TellsPieces a ps b → TellsPieces b qs c → TellsPieces a (ps ++ qs) c
 then_tells a b c ps qs one two = record {
   telling = two.telling ∙ one.telling;
-  text =
-      two.text
-      ∙ ap (λ (l : List ℕ). l ++ told b.telling b.steps qs) one.text
+  steps = two.steps ∙ ap (λ (n : ℕ). steps_after n qs) one.steps ∙ sym (steps_more a.steps ps qs);
+  text = λ within.
+      two.text (later within)
+      ∙ ap (λ (l : List ℕ). l ++ told b.telling b.steps qs) (one.text (before within))
       ∙ ap (λ (t : Telling). (a.text.items ++ told a.telling a.steps ps) ++ told t b.steps qs) one.telling
       ∙ ap (λ (n : ℕ). (a.text.items ++ told a.telling a.steps ps) ++ told a.telling n qs) one.steps
       ∙ append_assoc a.text.items (told a.telling a.steps ps) (told a.telling (steps_after a.steps ps) qs)
       ∙ ap (λ (l : List ℕ). a.text.items ++ l) (sym (told_more a.telling a.steps ps qs));
-  records =
-      two.records
-      ∙ ap (λ (l : List Record). l ++ recorded b.telling b.steps qs) one.records
+  records = λ within.
+      two.records (later within)
+      ∙ ap (λ (l : List Record). l ++ recorded b.telling b.steps qs) (one.records (before within))
       ∙ ap (λ (t : Telling). (a.records.items ++ recorded a.telling a.steps ps) ++ recorded t b.steps qs) one.telling
       ∙ ap (λ (n : ℕ). (a.records.items ++ recorded a.telling a.steps ps) ++ recorded a.telling n qs) one.steps
       ∙ append_assoc a.records.items (recorded a.telling a.steps ps) (recorded a.telling (steps_after a.steps ps) qs)
       ∙ ap (λ (l : List Record). a.records.items ++ l) (sym (records_more a.telling a.steps ps qs));
-  steps = two.steps ∙ ap (λ (n : ℕ). steps_after n qs) one.steps ∙ sym (steps_more a.steps ps qs);
 }
+  where
+    later : IsTold a.telling c.steps → IsTold b.telling c.steps
+    later = subst (λ (t : Telling). IsTold t c.steps) (sym one.telling)
+
+    before : IsTold a.telling c.steps → IsTold a.telling b.steps
+    before within = told_before a.telling b.steps qs (subst (IsTold a.telling) two.steps within)
 
 -- the lines of an order were appended
 lines_text : (telling : Telling) (n : ℕ) (text : List ℕ) → piece_text telling n (Piece.lines text) ≡ text
@@ -77,12 +96,12 @@ no_records Records n text = refl
 lines_told : (a b : Log) (text : List ℕ) → b.telling ≡ a.telling → b.steps ≡ a.steps → b.records ≡ a.records → b.text.items ≡ a.text.items ++ text → TellsPieces a (Piece.lines text ∷ []) b
 lines_told a b text telling steps records appended = record {
   telling = telling;
-  text = appended ∙ ap (λ (l : List ℕ). a.text.items ++ l) (sym (append-nil text) ∙ ap (λ (l : List ℕ). l ++ []) (sym (lines_text a.telling a.steps text)));
-  records =
+  steps = steps;
+  text = λ _. appended ∙ ap (λ (l : List ℕ). a.text.items ++ l) (sym (append-nil text) ∙ ap (λ (l : List ℕ). l ++ []) (sym (lines_text a.telling a.steps text)));
+  records = λ _.
       ap (λ (r : Vec Record Global). r.items) records
       ∙ sym (append-nil a.records.items)
       ∙ ap (λ (l : List Record). a.records.items ++ (l ++ [])) (sym (no_records a.telling a.steps text));
-  steps = steps;
 }
 
 -- ---- turns of one worker

@@ -17,9 +17,9 @@ use Rattle.rh_play.specs.declared.play.Play.{Play}
 use Rattle.rh_play_run.specs.Beginning.{BeginsPlay, bits_of, held_of, work_keys}
 use Rattle.rh_play_run.specs.declared.fault.PlayRunFault.{PlayRunFault}
 use Rattle.rh_play_run.specs.declared.fault.PlayRunFault.TheVariants.{Read, Text, Start, Memory, Write}
-use Rattle.rh_play_run.specs.Run.{ClosesWith, IsAllFinished, tally_so_far, IsPlayRead, IsPlayed, IsUnplayed, RunsPlay, SaysGoodPlay, closing}
+use Rattle.rh_play_run.specs.Run.{ClosesWith, IsAllFinished, tally_so_far, IsPlayRead, IsPlayed, IsUnplayed, IsUnrun, RunsPlay, SaysGoodPlay, closing}
 use Rattle.rh_play_run.specs.declared.log.Telling.{Telling}
-use Rattle.rh_play_run.specs.Pieces.{Piece, told}
+use Rattle.rh_play_run.specs.Pieces.{IsTold, Piece, steps_after, told}
 use Rattle.rh_play_run.specs.Schedule.{CarriesOutAll}
 use Rattle.rh_play_run.proofs.Begun.{matches}
 use Rattle.rh_play_run.proofs.Keeping.{schedule_keeps}
@@ -60,9 +60,9 @@ same_closing close k l S T xs ys q r s is =
     (subst (λ (x : List ℕ). close ≡ closing (tally_of k S x) true) s is))
 
 pub played : (telling : Telling) (play : Play) (first last : Game) (pieces : List Piece) (body cells close : List ℕ) → BeginsPlay play first → CarriesOutAll play.schedule.items first pieces last
-    → body ≡ told telling 0 pieces → IsMadeSoFar last cells → (AllFinished last → Layout cells last.shape.bits (set_after last.kind (held_first last) last.keys)) → ClosesWith last close
+    → IsTold telling (steps_after 0 pieces) → body ≡ told telling 0 pieces → IsMadeSoFar last cells → (AllFinished last → Layout cells last.shape.bits (set_after last.kind (held_first last) last.keys)) → ClosesWith last close
     → (AllFinished last → close ≡ closing (tally_of last.kind (held_first last) last.keys) true) → IsPlayed telling play (body ++ (dump_text (bits_of play) cells ++ close))
-played telling play first last pieces body cells close begins follows is made layout closes closed =
+played telling play first last pieces body cells close begins follows short is made layout closes closed =
     let end = last_game play first last pieces begins follows in
     record {
       first = first;
@@ -70,6 +70,7 @@ played telling play first last pieces body cells close begins follows is made la
       begins = begins;
       pieces = pieces;
       follows = follows;
+      short = short;
       ending = dump_text (bits_of play) cells ++ close;
       ends = record { cells = cells; so_far = made; close = close; closes = closes; text_is = refl };
       as_one = λ done. record {
@@ -102,28 +103,21 @@ closed_finished g empty first text tally whole finished counts tells none one tw
 
 -- ---- what comes of a run
 
-pub unplayed : (X : Type 0) (telling : Telling) (bytes old new : Option (List ℕ)) (play : Play) (fault : PlayRunFault) → IsPlayRead bytes play → IsUnplayed play fault → RunsPlay {X = X} telling bytes old new (Err fault)
-unplayed X telling bytes old new play Read read why = absurd why
-unplayed X telling bytes old new play (Text fault) read why = absurd why
-unplayed X telling bytes old new play (Start fault) read why = (play, read, why)
-unplayed X telling bytes old new play Memory read why = tt
-unplayed X telling bytes old new play Write read why = absurd why
+pub unrun : (bytes : Option (List ℕ)) (play : Play) (fault : PlayRunFault) → IsPlayRead bytes play → IsUnplayed play fault → IsUnrun bytes fault
+unrun bytes play Read read why = absurd why
+unrun bytes play (Text fault) read why = absurd why
+unrun bytes play (Start fault) read why = (play, read, why)
+unrun bytes play Memory read why = tt
+unrun bytes play Write read why = absurd why
+
+pub not_run : (X : Type 0) (telling : Telling) (bytes old new : Option (List ℕ)) (fault : PlayRunFault) → IsUnrun bytes fault → RunsPlay {X = X} telling bytes old new (Err fault)
+not_run X telling bytes old new Read why = tt
+not_run X telling bytes old new (Text fault) why = why
+not_run X telling bytes old new (Start fault) why = why
+not_run X telling bytes old new Memory why = tt
+not_run X telling bytes old new Write why = absurd why
 
 pub good_play : (X : Type 0) (bytes : Option (List ℕ)) (play : Play) (fault : PlayRunFault) → IsPlayRead bytes play → IsUnplayed play fault → IsErrOf {T = X} (Err fault) Memory → SaysGoodPlay bytes
 good_play X bytes play fault read why memory =
     let same : fault ≡ Memory = cc in
     (play, read, subst (IsUnplayed play) same why)
-
-same_parts : (bits : ℕ) (body body' cells cells' close close' : List ℕ) → body' ≡ body → cells' ≡ cells → close' ≡ close
-    → body' ++ (dump_text bits cells' ++ close') ≡ body ++ (dump_text bits cells ++ close)
-same_parts bits body body' cells cells' close close' p q r = rw (p, q, r) refl
-
-pub stopped : (X : Type 0) (telling : Telling) (bytes old new : Option (List ℕ)) (play : Play) (bits : ℕ) (body body' cells cells' close close' : List ℕ) → body' ≡ body → cells' ≡ cells → close' ≡ close
-    → IsPlayRead bytes play → IsPlayed telling play (body ++ (dump_text bits cells ++ close)) → AppendsFront old new (body' ++ (dump_text bits cells' ++ close')) → RunsPlay {X = X} telling bytes old new (Err Write)
-stopped X telling bytes old new play bits body body' cells cells' close close' p q r read is front =
-    (body ++ (dump_text bits cells ++ close), (play, read, is), subst (λ (t : List ℕ). AppendsFront old new t) (same_parts bits body body' cells cells' close close' p q r) front)
-
-pub done : {X : Type 0} (telling : Telling) (bytes old new : Option (List ℕ)) (play : Play) (bits : ℕ) (body body' cells cells' close close' : List ℕ) (x : X) → body' ≡ body → cells' ≡ cells → close' ≡ close
-    → IsPlayRead bytes play → IsPlayed telling play (body ++ (dump_text bits cells ++ close)) → Appends old new (body' ++ (dump_text bits cells' ++ close')) → RunsPlay {X = X} telling bytes old new (Ok x)
-done telling bytes old new play bits body body' cells cells' close close' x p q r read is written =
-    (body ++ (dump_text bits cells ++ close), (play, read, is), subst (λ (t : List ℕ). Appends old new t) (same_parts bits body body' cells cells' close close' p q r) written)

@@ -18,7 +18,7 @@ use Rattle.rh_play_run.specs.declared.fault.PlayRunFault.TheVariants as plays
 use Rattle.rh_play_run.specs.declared.log.Telling.TheVariants.{Records}
 use Rattle.rh_play_run.specs.Beginning.{BeginsPlay}
 use Rattle.rh_play_run.specs.Pieces.{Piece, recorded}
-use Rattle.rh_play_run.specs.Run.{IsPlayRead, IsRefused, IsTextFault}
+use Rattle.rh_play_run.specs.Run.{IsLong, IsPlayRead, IsUnrun}
 use Rattle.rh_play_run.specs.Schedule.{CarriesOutAll}
 
 -- The play was carried out: the table, the words of its cells at first, and what happened.
@@ -56,6 +56,7 @@ pub record IsDrawn (play : Play) (from : ℕ) (steps : Option ℕ) (text : List 
 -- Why no picture has these steps: they were not chosen one by one, and are too many; or the play ends before the first of them.
 abbrev pub IsUnchosen : (from : ℕ) → (steps : Option ℕ) → List Record → DrawFault → Type 0
 IsUnchosen from steps records (draw.Play fault) = ⊥
+IsUnchosen from steps records draw.TooLong = ⊥
 IsUnchosen from steps records draw.TooMany = (steps ≡ None) × (MAX_STEPS < count_from from records)
 IsUnchosen from steps records draw.NoStep = (1 < from) × (count_from from records ≡ 0)
 
@@ -70,13 +71,10 @@ pub record HasNoPicture (play : Play) (from : ℕ) (steps : Option ℕ) (fault :
 abbrev pub IsDrawnOf : (bytes : Option (List ℕ)) (from : ℕ) (steps : Option ℕ) (text : List ℕ) → Type 0
 IsDrawnOf bytes from steps text = (play : Play) × IsPlayRead bytes play × IsDrawn play from steps text
 
--- Nothing was drawn. Of a failed read and of want of memory other clauses speak.
+-- Nothing was drawn.
 abbrev pub IsUndrawn : (bytes : Option (List ℕ)) (from : ℕ) (steps : Option ℕ) → DrawFault → Type 0
-IsUndrawn bytes from steps (draw.Play plays.Read) = Unit {0}
-IsUndrawn bytes from steps (draw.Play (plays.Text fault)) = IsTextFault bytes fault
-IsUndrawn bytes from steps (draw.Play (plays.Start fault)) = IsRefused bytes fault
-IsUndrawn bytes from steps (draw.Play plays.Memory) = Unit {0}
-IsUndrawn bytes from steps (draw.Play plays.Write) = ⊥
+IsUndrawn bytes from steps (draw.Play fault) = IsUnrun bytes fault
+IsUndrawn bytes from steps draw.TooLong = (play : Play) × IsPlayRead bytes play × IsLong play
 IsUndrawn bytes from steps draw.TooMany = (play : Play) × IsPlayRead bytes play × HasNoPicture play from steps draw.TooMany
 IsUndrawn bytes from steps draw.NoStep = (play : Play) × IsPlayRead bytes play × HasNoPicture play from steps draw.NoStep
 
@@ -84,9 +82,4 @@ IsUndrawn bytes from steps draw.NoStep = (play : Play) × IsPlayRead bytes play 
 abbrev pub Draws : {X : Type 0} → (from : ℕ) (steps : Option ℕ) (bytes old new : Option (List ℕ)) → Result X DrawFault → Type 0
 Draws from steps bytes old new (Ok x) = (text : List ℕ) × IsDrawnOf bytes from steps text × Appends old new text
 Draws from steps bytes old new (Err (draw.Play plays.Write)) = (text : List ℕ) × IsDrawnOf bytes from steps text × AppendsFront old new text
-Draws from steps bytes old new (Err (draw.Play plays.Read)) = Unit {0}
-Draws from steps bytes old new (Err (draw.Play (plays.Text fault))) = IsTextFault bytes fault
-Draws from steps bytes old new (Err (draw.Play (plays.Start fault))) = IsRefused bytes fault
-Draws from steps bytes old new (Err (draw.Play plays.Memory)) = Unit {0}
-Draws from steps bytes old new (Err draw.TooMany) = IsUndrawn bytes from steps draw.TooMany
-Draws from steps bytes old new (Err draw.NoStep) = IsUndrawn bytes from steps draw.NoStep
+Draws from steps bytes old new (Err fault) = IsUndrawn bytes from steps fault

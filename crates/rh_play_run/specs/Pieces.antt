@@ -1,5 +1,5 @@
 -- What is told of a play, piece by piece.
-use Rattle.std.specs.Prelude.{◌≡◌, ℕ, ◌+◌, ◌-◌, ◌^◌, min, Bool, true, false, List, [], ◌∷◌, ◌++◌, Option, Some, None}
+use Rattle.std.specs.Prelude.{◌≡◌, ℕ, ◌+◌, ◌-◌, ◌^◌, ◌≤◌, min, Bool, true, false, List, [], ◌∷◌, ◌++◌, Option, Some, None}
 use Rattle.rh_words.specs.declared.steps.StepKind.{StepKind}
 use Rattle.rh_recorder.specs.declared.recorder.Touched.{Touched}
 use Rattle.rh_turns.specs.declared.turning.Turn.{Turn}
@@ -8,6 +8,7 @@ use Rattle.rh_trace.specs.Telling.{step_line}
 use Rattle.rh_trace.specs.declared.traced.Traced.{Traced}
 use Rattle.rh_draw.specs.declared.records.Record.{Record}
 use Rattle.rh_draw.specs.declared.records.Record.TheVariants.{Step, Round}
+use Rattle.rh_play_run.specs.declared.limits.TheConstants.{MAX_TOLD}
 use Rattle.rh_play_run.specs.declared.log.Log.{Log}
 use Rattle.rh_play_run.specs.declared.log.Telling.{Telling}
 use Rattle.rh_play_run.specs.declared.log.Telling.TheVariants.{Orders, Steps, Records}
@@ -77,9 +78,15 @@ abbrev pub steps_after : (steps : ℕ) → List Piece → ℕ
 steps_after steps [] = steps
 steps_after steps (p ∷ pieces) = steps_after (steps_with steps p) pieces
 
--- These were told.
+-- Steps are not too many to be told, where so much is told.
+abbrev pub IsTold : Telling → (steps : ℕ) → Type 0
+IsTold Orders steps = Unit {0}
+IsTold Steps steps = steps ≤ MAX_TOLD
+IsTold Records steps = steps ≤ MAX_TOLD
+
+-- These were told, where the steps are not too many.
 pub record TellsPieces (old : Log) (pieces : List Piece) (new : Log) : Type 0 where
   pub telling : new.telling ≡ old.telling
-  pub text : new.text.items ≡ old.text.items ++ told old.telling old.steps pieces
-  pub records : new.records.items ≡ old.records.items ++ recorded old.telling old.steps pieces
   pub steps : new.steps ≡ steps_after old.steps pieces
+  pub text : IsTold old.telling new.steps → new.text.items ≡ old.text.items ++ told old.telling old.steps pieces
+  pub records : IsTold old.telling new.steps → new.records.items ≡ old.records.items ++ recorded old.telling old.steps pieces

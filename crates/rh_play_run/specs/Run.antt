@@ -1,5 +1,5 @@
 -- The text that a play prints, and what comes of a run.
-use Rattle.std.specs.Prelude.{◌≡◌, ◌≢◌, ℕ, ◌≤◌, Bool, true, false, List, ◌++◌, length, Option, Some, None, Result, Ok, Err}
+use Rattle.std.specs.Prelude.{◌≡◌, ◌≢◌, ℕ, ◌<◌, ◌≤◌, Bool, true, false, List, ◌++◌, length, Option, Some, None, Result, Ok, Err}
 use Rattle.std.specs.Io.KnownBytes.{Appends}
 use Rattle.rh_layout.specs.Layout.{Layout}
 use Rattle.rh_ledger.specs.declared.tally.Tally.{Tally}
@@ -22,7 +22,11 @@ use Rattle.rh_play_run.specs.declared.fault.PlayRunFault.{PlayRunFault}
 use Rattle.rh_play_run.specs.declared.fault.PlayRunFault.TheVariants.{Read, Text, Start, Memory, Write}
 use Rattle.rh_play_run.specs.Beginning.{BeginsPlay, CanBegin, IsRefusedStart, bits_of, held_of, work_keys}
 use Rattle.rh_play_run.specs.declared.log.Telling.{Telling}
-use Rattle.rh_play_run.specs.Pieces.{Piece, told}
+use Rattle.rh_play_run.specs.declared.limits.TheConstants.{MAX_TOLD}
+use Rattle.rh_play_run.specs.declared.ending.Played.{Played}
+use Rattle.rh_play_run.specs.declared.tell_fault.TellFault.{TellFault}
+use Rattle.rh_play_run.specs.declared.tell_fault.TellFault.TheVariants as tells
+use Rattle.rh_play_run.specs.Pieces.{IsTold, Piece, steps_after, told}
 use Rattle.rh_play_run.specs.Schedule.{CarriesOutAll}
 
 -- ---- the end of a play
@@ -66,10 +70,29 @@ pub record IsPlayed (telling : Telling) (play : Play) (text : List ℕ) : Type 0
   pub begins : BeginsPlay play first
   pub pieces : List Piece
   pub follows : CarriesOutAll play.schedule.items first pieces last
+  pub short : IsTold telling (steps_after 0 pieces)
   pub ending : List ℕ
   pub ends : EndsSoFar (bits_of play) last ending
   pub as_one : AllFinished last → EndsAsOne play ending
   pub text_is : text ≡ told telling 0 pieces ++ ending
+
+-- The play makes more steps than are told of any.
+pub record IsLong (play : Play) : Type 0 where
+  pub first : Game
+  pub last : Game
+  pub begins : BeginsPlay play first
+  pub pieces : List Piece
+  pub follows : CarriesOutAll play.schedule.items first pieces last
+  pub long : MAX_TOLD < steps_after 0 pieces
+
+-- what a play prints
+abbrev pub printed : Played → List ℕ
+printed played = played.body.items ++ (dump_text played.bits played.cells.items ++ played.closing.items)
+
+-- It is what is told of the play, unless the steps are too many to be told.
+pub record Plays (telling : Telling) (play : Play) (played : Played) : Type 0 where
+  pub short : IsTold telling played.steps → IsPlayed telling play (printed played)
+  pub long : MAX_TOLD < played.steps → IsLong play
 
 -- ---- what comes of a run
 
@@ -123,12 +146,23 @@ IsUnplayed play (Start fault) = IsRefusedStart play fault
 IsUnplayed play Memory = CanBegin play
 IsUnplayed play Write = ⊥
 
--- The bytes said a play, and its text or a front of it was written; or they said none; or it does not begin. Of a failed
--- read and of want of memory other clauses speak.
+-- Nothing of a play was printed: the bytes say none, or one that does not begin. Of a failed read and of want of memory other
+-- clauses speak.
+abbrev pub IsUnrun : (bytes : Option (List ℕ)) → PlayRunFault → Type 0
+IsUnrun bytes Read = Unit {0}
+IsUnrun bytes (Text fault) = IsTextFault bytes fault
+IsUnrun bytes (Start fault) = IsRefused bytes fault
+IsUnrun bytes Memory = Unit {0}
+IsUnrun bytes Write = ⊥
+
+-- The bytes said a play, and its text or a front of it was written; or nothing was.
 abbrev pub RunsPlay : {X : Type 0} → Telling → (bytes old new : Option (List ℕ)) → Result X PlayRunFault → Type 0
 RunsPlay telling bytes old new (Ok x) = (text : List ℕ) × IsRunOf telling bytes text × Appends old new text
 RunsPlay telling bytes old new (Err Write) = (text : List ℕ) × IsRunOf telling bytes text × AppendsFront old new text
-RunsPlay telling bytes old new (Err (Text fault)) = IsTextFault bytes fault
-RunsPlay telling bytes old new (Err (Start fault)) = IsRefused bytes fault
-RunsPlay telling bytes old new (Err Memory) = Unit {0}
-RunsPlay telling bytes old new (Err Read) = Unit {0}
+RunsPlay telling bytes old new (Err fault) = IsUnrun bytes fault
+
+-- The same where a play is told; or it makes too many steps for that.
+abbrev pub TellsPlay : {X : Type 0} → Telling → (bytes old new : Option (List ℕ)) → Result X TellFault → Type 0
+TellsPlay telling bytes old new (Ok x) = RunsPlay telling bytes old new (Ok x)
+TellsPlay {X = X} telling bytes old new (Err (tells.Play fault)) = RunsPlay {X = X} telling bytes old new (Err fault)
+TellsPlay telling bytes old new (Err tells.TooLong) = (play : Play) × IsPlayRead bytes play × IsLong play

@@ -1,6 +1,7 @@
 //! What can go wrong where a play is drawn.
 
 use crate::fault::PlayRunFault;
+use crate::limits::MAX_TOLD;
 use rh_bytes::WriteFault;
 use rh_draw::MAX_STEPS;
 use std::alloc::AllocError;
@@ -12,6 +13,9 @@ pub enum DrawFault {
     /// The play is refused or was not run, or memory was refused, or the picture was not written.
     #[error(transparent)]
     Play(PlayRunFault),
+    /// It makes more steps than are told.
+    #[error("more than {} steps: it can be played, and not traced or drawn", MAX_TOLD)]
+    TooLong,
     /// All steps from a number on are more than one picture has.
     #[error("more than {} steps: choose some by --from STEP and --steps N", MAX_STEPS)]
     TooMany,

@@ -9,11 +9,13 @@ ghost use Rattle.rh_play.specs.declared.limits.TheConstants.{MAX_TEXT_BYTES};
 ghost use Rattle.rh_play_run.specs.Beginning.{IsBlank};
 ghost use Rattle.rh_play_run.specs.Devices.{ReadsPlay};
 ghost use Rattle.rh_play_run.specs.Drawing.{Draws, IsDrawnOf, IsRecorded, IsUnchosen, IsUndrawn, IsWindow};
-ghost use Rattle.rh_play_run.specs.Run.{IsUnplayed, SaysGoodPlay};
+ghost use Rattle.rh_play_run.specs.Run.{IsLong, IsUnplayed, SaysGoodPlay};
+ghost use Rattle.rh_play_run.specs.declared.limits.TheConstants.{MAX_TOLD};
 
 use crate::beginning::{begin, blank_cells, cells_in};
 use crate::draw_fault::DrawFault;
 use crate::fault::PlayRunFault;
+use crate::limits::MAX_TOLD;
 use crate::log::{Log, Telling};
 use crate::orders::Size;
 use crate::reading::read_play;
@@ -36,6 +38,8 @@ struct Recorded {
     records: Vec<Record>,
     /// For each step at a control, the key that its worker does.
     keys: Vec<Option<u64>>,
+    /// How many steps were made. All are recorded, unless they are more than `MAX_TOLD`.
+    steps: u64,
 }
 
 /// Reads the text of a play, runs the play, and writes the picture of its steps, an SVG: of so many
@@ -89,7 +93,11 @@ fn drawn<R: Read>(
         cells,
         records,
         keys,
+        steps: made,
     } = recorded;
+    if made > MAX_TOLD {
+        return Err(DrawFault::TooLong);
+    }
     let window = window(&records, from, steps)?;
     let title = title_of(alloc, &play)?;
     Ok(draw(alloc, &title, &shape, &cells, &records, &keys, window)?)
@@ -98,8 +106,9 @@ fn drawn<R: Read>(
 /// Runs a play, whose table is made of blank cells, for its records.
 fn record(alloc: Global, blank: Vec<u64>, play: &Play) -> Result<Recorded, PlayRunFault>
     requires { IsBlank blank.items }
-    ensures recorded { IfOk result (λ r.
+    ensures recorded { IfOk result (λ r. r.steps ≤ MAX_TOLD →
         IsRecorded play.now r.shape r.cells.items r.records.items) }
+    ensures long { IfOk result (λ r. MAX_TOLD < r.steps → IsLong play.now) }
     ensures refused { IfErr result (IsUnplayed play.now) }
 {
     let size = Size {
@@ -116,6 +125,7 @@ fn record(alloc: Global, blank: Vec<u64>, play: &Play) -> Result<Recorded, PlayR
         cells,
         records: log.records,
         keys: log.keys,
+        steps: log.steps,
     })
 }
 

@@ -1,14 +1,13 @@
 //! What is told at the end of a play.
 
-ghost use Rattle.std.specs.Prelude.{◌≡◌, ◌++◌, IfOk, true};
+ghost use Rattle.std.specs.Prelude.{◌≡◌, IfOk, true};
 ghost use Rattle.rh_layout.specs.Layout.{IsLayout, Layout};
 ghost use Rattle.rh_ledger.specs.Phase.{set_after, tally_of};
 ghost use Rattle.rh_words.specs.Parts.{cell_count};
 ghost use Rattle.rh_turns.specs.Game.{AllFinished};
 ghost use Rattle.rh_stepper.specs.Made.{IsMadeSoFar, held_first};
 ghost use Rattle.rh_bytes.specs.Counting.{Emits};
-ghost use Rattle.rh_dump.specs.Dump.{dump_text};
-ghost use Rattle.rh_play_run.specs.Run.{ClosesWith, closing};
+ghost use Rattle.rh_play_run.specs.Run.{ClosesWith, closing, printed};
 
 use rh_bytes::{Counted, WriteFault, write_texts};
 use rh_dump::write_dump;
@@ -16,6 +15,18 @@ use rh_play::{push_end, push_tally};
 use rh_stepper::Player;
 use std::alloc::{AllocError, Global};
 use std::io::Write;
+
+/// What a play prints: the lines of its schedule, the cells that are dumped, and the lines below
+/// the dump.
+#[derive(Drop)]
+pub(crate) struct Played {
+    pub(crate) body: Vec<u8>,
+    pub(crate) bits: u32,
+    pub(crate) cells: Vec<u64>,
+    pub(crate) closing: Vec<u8>,
+    /// How many steps were made.
+    pub(crate) steps: u64,
+}
 
 /// The cells with what they stand for.
 pub(crate) fn made_cells(
@@ -46,19 +57,15 @@ pub(crate) fn closing_lines(alloc: Global, player: &Player) -> Result<Vec<u8>, A
     Ok(text)
 }
 
-/// Writes what was printed, the dump of the cells, and the lines below it.
-pub(crate) fn write_parts<W: Write>(
+/// Writes what a play prints.
+pub(crate) fn write_played<W: Write>(
     writer: &mut Counted<W>,
-    body: &[u8],
-    bits: u32,
-    cells: &[u64],
-    closing: &[u8],
+    played: &Played,
 ) -> Result<(), WriteFault>
-    requires { IsLayout bits cells.now }
-    ensures { Emits W.contents writer.old writer.new
-        (body.now ++ (dump_text bits cells.now ++ closing.now)) result }
+    requires { IsLayout played.now.bits played.now.cells.items }
+    ensures { Emits W.contents writer.old writer.new (printed played.now) result }
 {
-    write_texts(writer, &[body])?;
-    write_dump(bits, cells, writer)?;
-    write_texts(writer, &[closing])
+    write_texts(writer, &[&played.body])?;
+    write_dump(played.bits, &played.cells, writer)?;
+    write_texts(writer, &[&played.closing])
 }

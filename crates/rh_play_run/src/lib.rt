@@ -18,7 +18,8 @@
 //!   `Write` come only where the device's count of failures rose. Of a play's file at most
 //!   1,048,577 bytes are taken.
 //! - `tell_play`: the same of a text that tells the steps too, each by its line before the line of
-//!   its order. Worker, kind, part and words are those of the step that was made.
+//!   its order. Worker, kind, part and words are those of the step that was made. `TooLong` comes
+//!   where the play makes more than 1,000,000 steps, of `draw_play` too, and only there.
 //! - `draw_play`: where it answers `Ok`, what was written is a picture (`rh_draw`) of the steps
 //!   that were made, from a number on, and of the cells at first. A play is refused, and want of
 //!   memory told, as by `run_play`. `TooMany` comes only where no number of steps was chosen and
@@ -35,12 +36,14 @@ mod drawing;
 mod ending;
 mod fault;
 mod laws;
+mod limits;
 mod log;
 mod orders;
 mod reading;
 mod resting;
 mod run;
 mod schedule;
+mod tell_fault;
 mod title;
 mod turns;
 
@@ -48,5 +51,7 @@ pub use draw_fault::DrawFault;
 pub use drawing::draw_play;
 pub use fault::PlayRunFault;
 pub use laws::steps_stand_between;
+pub use limits::MAX_TOLD;
 pub use log::Telling;
 pub use run::{run_play, tell_play};
+pub use tell_fault::TellFault;

@@ -1,9 +1,11 @@
 //! What is told of a play so far.
 
-ghost use Rattle.std.specs.Prelude.{◌≡◌, [], ◌∷◌, OnOk};
-ghost use Rattle.rh_play_run.specs.Pieces.{TellsPieces, round_pieces, turn_pieces};
+ghost use Rattle.std.specs.Prelude.{◌≡◌, ◌<◌, [], ◌∷◌, IsFalse, IsTrue, OnOk};
+ghost use Rattle.rh_play_run.specs.Pieces.{IsTold, TellsPieces, round_pieces, turn_pieces};
 ghost use Rattle.rh_play_run.specs.Pieces.Piece.{step as step_piece};
+ghost use Rattle.rh_play_run.specs.declared.limits.TheConstants.{MAX_TOLD};
 
+use crate::limits::MAX_TOLD;
 use rh_draw::Record;
 use rh_recorder::Touched;
 use rh_trace::{Traced, push_step};
@@ -22,9 +24,19 @@ pub enum Telling {
     Records,
 }
 
+/// Whether all of these steps are told, where so much is told of a play.
+pub(crate) fn is_told(telling: Telling, steps: u64) -> bool
+    ensures told { IsTrue result → IsTold telling steps }
+    ensures long { IsFalse result → (MAX_TOLD < steps) × ¬ IsTold telling steps }
+{
+    match telling {
+        Telling::Orders => true,
+        Telling::Steps | Telling::Records => steps <= MAX_TOLD,
+    }
+}
+
 /// What is told of a play so far, and how many steps were made. Their count stops at the greatest
-/// `u64`.
-/// It is one text in memory, of some 40 bytes for each step that is told.
+/// `u64`. No step behind the last one that may be told is kept.
 #[derive(Drop)]
 pub(crate) struct Log {
     pub(crate) telling: Telling,
@@ -71,6 +83,9 @@ impl Log {
             (TellsPieces self.old (step_piece worker kind touched ∷ []) self.new) }
     {
         self.steps = self.steps.saturating_add(1);
+        if !is_told(self.telling, self.steps) {
+            return Ok(());
+        }
         let step = Traced {
             number: self.steps,
             worker,
@@ -88,7 +103,7 @@ impl Log {
     pub(crate) fn keep(&mut self, made: bool, key: Option<u64>) -> Result<(), AllocError>
         ensures { OnOk result (TellsPieces self.old [] self.new) }
     {
-        if made && self.telling == Telling::Records {
+        if made && self.telling == Telling::Records && self.steps <= MAX_TOLD {
             self.keys.push(key)?;
         }
         Ok(())

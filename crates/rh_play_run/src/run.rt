@@ -1,35 +1,26 @@
 //! A play, from its text to what it prints.
 
-ghost use Rattle.std.specs.Prelude.{◌≡◌, ◌+◌, ◌++◌, ◌⊎◌, IfErr, IfOk, IsErrOf};
+ghost use Rattle.std.specs.Prelude.{◌≡◌, ◌⊎◌, IfErr, IfOk, IsErrOf};
 ghost use Rattle.rh_layout.specs.Layout.{IsLayout};
 ghost use Rattle.rh_bytes.specs.Counting.{WritesLast, inner_of};
-ghost use Rattle.rh_dump.specs.Dump.{dump_text};
+ghost use Rattle.rh_play.specs.declared.play.Play.{Play};
 ghost use Rattle.rh_play_run.specs.Beginning.{IsBlank, workers_in};
 ghost use Rattle.rh_play_run.specs.Devices.{ReadsPlay};
-ghost use Rattle.rh_play_run.specs.Run.{IsPlayed, IsUnplayed, RunsPlay, SaysGoodPlay};
+ghost use Rattle.rh_play_run.specs.Run.{IsPlayRead, IsUnplayed, IsUnrun, Plays, RunsPlay, SaysGoodPlay, TellsPlay};
 ghost use Rattle.rh_play_run.specs.declared.log.Telling.TheVariants.{Orders};
 
 use crate::beginning::{begin, blank_cells, cells_in};
-use crate::ending::{closing_lines, made_cells, write_parts};
+use crate::ending::{Played, closing_lines, made_cells, write_played};
 use crate::fault::PlayRunFault;
-use crate::log::{Log, Telling};
+use crate::log::{Log, Telling, is_told};
 use crate::orders::Size;
 use crate::reading::read_play;
 use crate::schedule::follow;
+use crate::tell_fault::TellFault;
 use rh_bytes::Counted;
 use rh_play::{Play, Work};
 use std::alloc::Global;
 use std::io::{Read, Write};
-
-/// What a play prints: the lines of its schedule, the cells that are dumped, and the lines below
-/// the dump.
-#[derive(Drop)]
-struct Played {
-    body: Vec<u8>,
-    bits: u32,
-    cells: Vec<u64>,
-    closing: Vec<u8>,
-}
 
 /// Reads the text of a play, runs the play, and writes what it prints: a line for each order of its
 /// schedule (`show`: one for each full cell), the dump of what the cells stand for, the line
@@ -50,36 +41,55 @@ pub fn run_play<R: Read, W: Write>(
     ensures reads { ReadsPlay R.remaining PlayRunFault.Read reader.old reader.new result }
     ensures writes { WritesLast PlayRunFault.Write writer.old writer.new result }
 {
-    tell_play(alloc, Telling::Orders, reader, writer)
+    let played = play_read(alloc, Telling::Orders, reader)?;
+    write_played(writer, &played)?;
+    Ok(())
 }
 
 /// `run_play`, which tells so much of the play: where its steps are told, a line for each stands
-/// before the line of its order, and all else is as `run_play` writes it.
+/// before the line of its order, and all else is as `run_play` writes it. A play of more than
+/// `MAX_TOLD` steps is refused then.
 pub fn tell_play<R: Read, W: Write>(
     alloc: Global,
     telling: Telling,
     reader: &mut Counted<R>,
     writer: &mut Counted<W>,
-) -> Result<(), PlayRunFault>
-    ensures runs { RunsPlay telling (R.remaining (inner_of reader.old))
+) -> Result<(), TellFault>
+    ensures tells { TellsPlay telling (R.remaining (inner_of reader.old))
         (W.contents (inner_of writer.old))
         (W.contents (inner_of writer.new)) result }
+    ensures memory { IsErrOf result (TellFault.Play PlayRunFault.Memory) →
+        (reader.new ≡ reader.old) ⊎ SaysGoodPlay (R.remaining (inner_of reader.old)) }
+    ensures reads { ReadsPlay R.remaining (TellFault.Play PlayRunFault.Read) reader.old reader.new
+        result }
+    ensures writes { WritesLast (TellFault.Play PlayRunFault.Write) writer.old writer.new result }
+{
+    let played = play_read(alloc, telling, reader)?;
+    if !is_told(telling, played.steps) {
+        return Err(TellFault::TooLong);
+    }
+    write_played(writer, &played)?;
+    Ok(())
+}
+
+/// What the play prints that a reader gives, where so much is told of it.
+fn play_read<R: Read>(
+    alloc: Global,
+    telling: Telling,
+    reader: &mut Counted<R>,
+) -> Result<Played, PlayRunFault>
+    ensures plays { IfOk result (λ played. (play : Play)
+        × IsPlayRead (R.remaining (inner_of reader.old)) play × Plays telling play played) }
+    ensures layout { IfOk result (λ played. IsLayout played.bits played.cells.items) }
+    ensures refused { IfErr result (IsUnrun (R.remaining (inner_of reader.old))) }
     ensures memory { IsErrOf result PlayRunFault.Memory →
         (reader.new ≡ reader.old) ⊎ SaysGoodPlay (R.remaining (inner_of reader.old)) }
     ensures reads { ReadsPlay R.remaining PlayRunFault.Read reader.old reader.new result }
-    ensures writes { WritesLast PlayRunFault.Write writer.old writer.new result }
 {
     let blank = blank_cells(alloc)?;
     let play = read_play(alloc, reader)?;
     let played = perform(alloc, telling, blank, &play)?;
-    write_parts(
-        writer,
-        &played.body,
-        played.bits,
-        &played.cells,
-        &played.closing,
-    )?;
-    Ok(())
+    Ok(played)
 }
 
 /// Runs a play, whose table is made of blank cells, and tells so much of it.
@@ -90,8 +100,7 @@ fn perform(
     play: &Play,
 ) -> Result<Played, PlayRunFault>
     requires { IsBlank blank.items }
-    ensures played { IfOk result (λ played. IsPlayed telling play.now (played.body.items
-        ++ (dump_text played.bits played.cells.items ++ played.closing.items))) }
+    ensures plays { IfOk result (Plays telling play.now) }
     ensures layout { IfOk result (λ played. IsLayout played.bits played.cells.items) }
     ensures refused { IfErr result (IsUnplayed play.now) }
 {
@@ -110,6 +119,7 @@ fn perform(
         bits,
         cells,
         closing,
+        steps: log.steps,
     })
 }
 

@@ -17,7 +17,9 @@ pub use rh_ledger::{Kind, Tally};
 pub use rh_play::{
     Bits, Order, Play, PlayTextFault, PlayTextKind, Rooms as PlayRooms, Work, parse_play,
 };
-pub use rh_play_run::{DrawFault, PlayRunFault, Telling, draw_play, run_play, tell_play};
+pub use rh_play_run::{
+    DrawFault, MAX_TOLD, PlayRunFault, TellFault, Telling, draw_play, run_play, tell_play,
+};
 pub use rh_recorder::Touched;
 pub use rh_stepper::{PlayFault, Player};
 pub use rh_turns::Turn;

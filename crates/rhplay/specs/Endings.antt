@@ -10,6 +10,7 @@ use Rattle.rh_stepper.specs.declared.fault.PlayFault.TheVariants as starts
 use Rattle.rh_play_run.specs.declared.fault.PlayRunFault.{PlayRunFault}
 use Rattle.rh_play_run.specs.declared.fault.PlayRunFault.TheVariants as plays
 use Rattle.rh_play_run.specs.declared.draw_fault.DrawFault.TheVariants as draw
+use Rattle.rh_play_run.specs.declared.tell_fault.TellFault.TheVariants as tell
 use Rattle.rhplay.specs.declared.status.Fault.{Fault}
 use Rattle.rhplay.specs.declared.status.Fault.TheVariants as fault
 
@@ -34,8 +35,10 @@ ending_by_play plays.Write = Write
 -- how a run ends that a fault ended early
 abbrev pub ending_by : Fault → Status
 ending_by (fault.Program fault) = ending_by_program fault
-ending_by (fault.Play fault) = ending_by_play fault
+ending_by (fault.Play (tell.Play fault)) = ending_by_play fault
+ending_by (fault.Play tell.TooLong) = Refused
 ending_by (fault.Draw (draw.Play fault)) = ending_by_play fault
+ending_by (fault.Draw draw.TooLong) = Refused
 ending_by (fault.Draw draw.TooMany) = Refused
 ending_by (fault.Draw draw.NoStep) = Refused
 

@@ -6,7 +6,7 @@ ghost use Rattle.rhplay.specs.Endings.{ending_by, ending_by_play};
 
 use rh_cli::{ProgramFault, Status};
 use rh_play::PlayTextKind;
-use rh_play_run::{DrawFault, PlayRunFault};
+use rh_play_run::{DrawFault, PlayRunFault, TellFault};
 use rh_stepper::PlayFault;
 use thiserror::Error;
 
@@ -16,7 +16,7 @@ pub enum Fault {
     #[error(transparent)]
     Program(#[from] ProgramFault),
     #[error(transparent)]
-    Play(#[from] PlayRunFault),
+    Play(#[from] TellFault),
     #[error(transparent)]
     Draw(#[from] DrawFault),
 }
@@ -28,8 +28,13 @@ impl Fault {
     {
         match self {
             Fault::Program(fault) => fault.status(),
-            Fault::Play(fault) | Fault::Draw(DrawFault::Play(fault)) => status_of_play(fault),
-            Fault::Draw(DrawFault::TooMany | DrawFault::NoStep) => Status::Refused,
+            Fault::Play(TellFault::Play(fault)) | Fault::Draw(DrawFault::Play(fault)) => {
+                status_of_play(fault)
+            }
+            Fault::Play(TellFault::TooLong) => Status::Refused,
+            Fault::Draw(DrawFault::TooLong | DrawFault::TooMany | DrawFault::NoStep) => {
+                Status::Refused
+            }
         }
     }
 }
@@ -49,7 +54,7 @@ fn status_of_play(fault: &PlayRunFault) -> Status
 }
 
 /// What came of a play, told as by the program.
-pub fn playing(outcome: Result<(), PlayRunFault>) -> Result<(), Fault>
+pub fn playing(outcome: Result<(), TellFault>) -> Result<(), Fault>
     ensures { result ≡ told_as Fault.Play outcome }
 {
     match outcome {

@@ -6,7 +6,7 @@ ghost use Rattle.rh_bytes.specs.Counting.{inner_of};
 ghost use Rattle.rh_cli.specs.Endings.{EndsBy, EndsWith};
 ghost use Rattle.rh_draw.specs.declared.limits.TheConstants.{MAX_STEPS};
 ghost use Rattle.rh_play_run.specs.Drawing.{Draws};
-ghost use Rattle.rh_play_run.specs.Run.{RunsPlay};
+ghost use Rattle.rh_play_run.specs.Run.{TellsPlay};
 ghost use Rattle.rhplay.specs.Endings.{steps_asked};
 
 use crate::status::{Fault, drawing, playing};
@@ -44,7 +44,7 @@ fn play_out<R: Read, W: Write + Drop>(
     writer: BufWriter<W>,
 ) -> (Result<Status, Fault>, BufWriter<W>)
     ensures { EndsWith {X = ⊤} W.contents (λ f told. told ≡ Fault.Play f) Fault.Program
-        (λ out r. RunsPlay telling (R.remaining (inner_of reader.old))
+        (λ out r. TellsPlay telling (R.remaining (inner_of reader.old))
         (writer_contents W.contents writer) out r)
         result }
 {

@@ -12,6 +12,7 @@ returns c play text is = (
     begins = is.begins;
     pieces = is.pieces;
     follows = is.follows;
+    short = tt;
     ending = is.ending;
     ends = is.ends;
     as_one = is.as_one;
