@@ -16,9 +16,8 @@
  * Time grows as the sum of the lengths does; but where many keys are chosen to have one place in a
  * table, as the square of how many these are. Beside the answer a call holds some 8 bytes for each
  * number, at a few levels, by malloc and realloc, and frees them before it returns. It starts no
- * thread and keeps nothing between two calls. So any number of threads may call at once; who wants
- * to share one pair of lists out to several threads gives each a range of numbers, and puts what
- * they answer one behind the other.
+ * thread and keeps nothing between two calls. So any number of threads may call at once, and share
+ * the work on one pair of lists by rhset_within.
  *
  * What the caller owes, and nothing checks: each pointer is not null, aligned to 8 bytes, and has as
  * many numbers behind it as is said, also where these are none; `into` and `detail` overlap nothing
@@ -33,6 +32,9 @@
 #ifdef __cplusplus
 extern "C" {
 #endif
+
+/* The version that this file speaks of: of 1.2.3 it would be 10203. */
+#define RHSET_VERSION 100
 
 /* The greatest number that a list may have. */
 #define RHSET_MAX_KEY UINT64_C(4611686018427387902)
@@ -71,6 +73,20 @@ uint32_t rhset_subtract(const uint64_t *first, size_t firsts, const uint64_t *se
 /* The numbers that stand in one of the lists alone. */
 uint32_t rhset_xor(const uint64_t *first, size_t firsts, const uint64_t *second, size_t seconds,
                    uint64_t *into, size_t room, struct rhset_detail *detail);
+
+/* The numbers of one list that are `from` or more and less than `to`, in the list's order, with
+ * repeats; there are at most so many of them as the list has. It answers RHSET_DONE or
+ * RHSET_NO_ROOM, takes no memory, and looks at each number twice.
+ *
+ * So threads share the work on two lists: each has a range of its own, cuts both lists to it, and
+ * calls rhset_intersect or its like on the parts. Where each range begins as the one before it ends,
+ * and all numbers lie in them, what the threads are answered, one behind the other, is what one call
+ * on the whole lists answers. That is proved. */
+uint32_t rhset_within(const uint64_t *numbers, size_t many, uint64_t from, uint64_t to,
+                      uint64_t *into, size_t room, struct rhset_detail *detail);
+
+/* The version of the library that is linked with: RHSET_VERSION, unless it is another one than this file is of. */
+uint32_t rhset_version(void);
 
 #ifdef __cplusplus
 }

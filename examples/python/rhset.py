@@ -86,14 +86,44 @@ def _combined(call, first, second, most):
         raise MemoryError
     assert status == _DONE, status
     del into[detail.number:]
-    if _is_numpy(first):
+    return _of_kind(first, into)
+
+
+def _of_kind(numbers, came):
+    """What came, as an array where the numbers are one."""
+    if _is_numpy(numbers):
         import numpy
 
-        return numpy.frombuffer(into, dtype="uint64") if into else numpy.empty(0, dtype="uint64")
-    return into if isinstance(first, array.array) else into.tolist()
+        return numpy.frombuffer(came, dtype="uint64") if came else numpy.empty(0, dtype="uint64")
+    return came if isinstance(numbers, array.array) else came.tolist()
 
 
+_WITHIN = _LIBRARY.rhset_within
+_WITHIN.argtypes = [ctypes.c_void_p, ctypes.c_size_t, ctypes.c_uint64, ctypes.c_uint64, ctypes.c_void_p, ctypes.c_size_t, ctypes.POINTER(_Detail)]
+_WITHIN.restype = ctypes.c_uint32
 _INTERSECT, _UNION, _SUBTRACT, _XOR = map(_call, ("rhset_intersect", "rhset_union", "rhset_subtract", "rhset_xor"))
+
+
+def within(numbers, least, past):
+    """The numbers of a list that are `least` or more and less than `past`, in its order, with repeats.
+
+    So threads can share the work on two lists: what the parts of both in ranges that follow one another come to, one behind the
+    other, is what the lists come to.
+    """
+    kept, at, many = _placed(numbers, 0)
+    into = array.array("Q", bytes(8 * many))
+    detail = _Detail()
+    address = into.buffer_info()[0] if many else _NOWHERE
+    status = _WITHIN(at if many else _NOWHERE, many, least, past, address, many, detail)
+    assert status == _DONE, status
+    del into[detail.number:]
+    return _of_kind(numbers, into)
+
+
+def version():
+    """The version of the library, as in 0.1.0."""
+    number = _LIBRARY.rhset_version()
+    return f"{number // 10000}.{number // 100 % 100}.{number % 100}"
 
 
 def intersect(first, second):

@@ -3,7 +3,7 @@ use Rattle.std.specs.Prelude.{◌≡◌, ℕ, List, length, Result, Ok, Err, IfO
 use Rattle.rh_combine.specs.declared.how.How.{How}
 use Rattle.rh_slices.specs.declared.refused.Refused.{Refused}
 use Rattle.rh_slices.specs.declared.refused.Refused.TheVariants.{NotAKey, NoRoom, Memory}
-use Rattle.rh_slices.specs.Slices.{IsPut, IsWhy}
+use Rattle.rh_slices.specs.Slices.{AreTooMany, IsCut, IsPut, IsWhy}
 use Rattle.rh_c.specs.declared.answer.Detail.{Detail}
 use Rattle.rh_c.specs.declared.answer.TheConstants.{DONE, BAD_KEY, NO_ROOM, NO_MEMORY}
 
@@ -23,4 +23,12 @@ pub record Answers (how : How) (lists : List (List ℕ)) (old new : List ℕ) (s
   pub told : Told outcome status d
   pub put : IfOk outcome (IsPut how lists old new)
   pub why : IfErr outcome (IsWhy how lists (length old))
+  pub unchanged : OnErr outcome (new ≡ old)
+
+-- The numbers of the range were put, or nothing was, as there is room for fewer.
+pub record AnswersWithin (from to : ℕ) (list old new : List ℕ) (status : ℕ) (d : Detail) : Type 0 where
+  pub outcome : Result ℕ Refused
+  pub told : Told outcome status d
+  pub cut : IfOk outcome (IsCut from to list old new)
+  pub why : IfErr outcome (AreTooMany from to list (length old))
   pub unchanged : OnErr outcome (new ≡ old)

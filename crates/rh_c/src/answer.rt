@@ -18,6 +18,9 @@ pub const NO_ROOM: u32 = 2;
 /// Want of memory.
 pub const NO_MEMORY: u32 = 3;
 
+/// The version of the library: of 1.2.3 it would be 10203.
+pub const VERSION: u32 = 100;
+
 /// What a status is about. Where a status tells nothing of a field, the field is 0.
 #[repr(C)]
 #[derive(Clone, Copy, Debug, PartialEq, Eq)]

@@ -1,6 +1,7 @@
 -- What is put into a slice of what comes of lists, and why nothing is.
 use Rattle.std.specs.Prelude.{◌≡◌, ℕ, ◌<◌, List, [], length, get_or, take, drop, slice_get, Some, All}
 use Rattle.rh_layout.specs.Key.{IsKey}
+use Rattle.rh_layout.specs.Range.{within}
 use Rattle.rh_layout.specs.declared.limits.TheConstants.{MAX_KEY}
 use Rattle.rh_combine.specs.Combine.{answer}
 use Rattle.rh_combine.specs.declared.how.How.{How}
@@ -36,3 +37,14 @@ abbrev pub IsWhy : How → List (List ℕ) → (room : ℕ) → Refused → Type
 IsWhy how lists room (NotAKey list at) = IsFirstOf lists list at
 IsWhy how lists room (NoRoom count) = AreKeys lists × (count ≡ length (answer how lists)) × (room < count)
 IsWhy how lists room Memory = AreKeys lists
+
+-- so many numbers of the list lie in the range; they stand at the front, and behind them what stood there
+pub record IsCut (from to : ℕ) (list old new : List ℕ) (count : ℕ) : Type 0 where
+  pub count_is : count ≡ length (within from to list)
+  pub front : take count new ≡ within from to list
+  pub rest : drop count new ≡ drop count old
+
+-- more numbers of the list lie in the range than a slice of this length takes
+pub record AreTooMany (from to : ℕ) (list : List ℕ) (room : ℕ) (why : Refused) : Type 0 where
+  pub is : why ≡ NoRoom (length (within from to list))
+  pub more : room < length (within from to list)
