@@ -282,11 +282,8 @@ module _ (z : Shape) (words : List ℕ) (keep : ℕ → View) (w : World) (side 
       value_of (failed f by) q = sym (true_note z words keep w side rule m who mine (old_is d e value) tt refl q).1
 
   plain_value : (r : Control) (a b : ℕ) → IsPlain a → IsPlain b → IsPlain (entry_value r a b)
-  plain_value unused a b p q = p
-  plain_value undecided a b p q = p
   plain_value succeeded a b p q = q
-  plain_value withdrawn a b p q = p
-  plain_value (failed e by) a b p q = p
+  plain_value _ a b p q = p
 
   -- how the world has it released, and which value its cell gets
   released_so : (d : Ref) (e : ℕ) (o : Option Control) (value : ℕ) → IsOpened (w.control d) → KnowsValue k d e o value → KnowsOver t d
@@ -302,11 +299,8 @@ module _ (z : Shape) (words : List ℕ) (keep : ℕ → View) (w : World) (side 
       sym old ∙ either (w.control d) refl passes
     where
       either : (c : Control) → w.control d ≡ c → HoldsIn w (stale d) → w.old d e ≡ entry_value (w.control d) (w.old d e) (w.new d e)
-      either unused q p = ap (λ (c : Control). entry_value c (w.old d e) (w.new d e)) (sym q)
-      either undecided q p = ap (λ (c : Control). entry_value c (w.old d e) (w.new d e)) (sym q)
       either succeeded q p = absurd (p.1 q (w.target d e) here)
-      either withdrawn q p = ap (λ (c : Control). entry_value c (w.old d e) (w.new d e)) (sym q)
-      either (failed f by) q p = ap (λ (c : Control). entry_value c (w.old d e) (w.new d e)) (sym q)
+      either _ q p = ap (λ (c : Control). entry_value c (w.old d e) (w.new d e)) (sym q)
 
   release_here : (d : Ref) (e : ℕ) (o : Option Control) (value : ℕ) → CanRelease z k d e (w.target d e) o value
       → Core (world_after w who (releases d e)) z (set words (w.target d e) (swapped (desc_number d) value (found_in (w.target d e))))

@@ -12,84 +12,52 @@ use Rattle.rh_words.specs.Steps.{IsResult}
 
 pub told_decided : (k : Control) → IsDecided k → IsDecided (without_entry k)
 told_decided unused h = h
-told_decided undecided h = h
-told_decided succeeded h = h
-told_decided withdrawn h = h
-told_decided (failed e by) h = h
+told_decided _ h = h
 
 pub told_unused : (k : Control) → without_entry k ≡ unused → k ≡ unused
 told_unused unused e = refl
-told_unused undecided e = cc
-told_unused succeeded e = cc
-told_unused withdrawn e = cc
-told_unused (failed i by) e = cc
+told_unused _ e = cc
 
 pub told_withdrawn : (k : Control) → without_entry k ≡ withdrawn → k ≡ withdrawn
-told_withdrawn unused e = cc
-told_withdrawn undecided e = cc
-told_withdrawn succeeded e = cc
 told_withdrawn withdrawn e = refl
-told_withdrawn (failed i by) e = cc
+told_withdrawn _ e = cc
 
 pub told_succeeded : (k : Control) → without_entry k ≡ succeeded → k ≡ succeeded
-told_succeeded unused e = cc
-told_succeeded undecided e = cc
 told_succeeded succeeded e = refl
-told_succeeded withdrawn e = cc
-told_succeeded (failed i by) e = cc
+told_succeeded _ e = cc
 
 pub told_success : (k : Control) → is_success (without_entry k) ≡ is_success k
 told_success unused = refl
-told_success undecided = refl
-told_success succeeded = refl
-told_success withdrawn = refl
-told_success (failed e by) = refl
+told_success _ = refl
 
 -- the value that counts does not ask where it failed
 pub told_value : (k : Control) (old new : ℕ) → entry_value (without_entry k) old new ≡ entry_value k old new
 told_value unused old new = refl
-told_value undecided old new = refl
-told_value succeeded old new = refl
-told_value withdrawn old new = refl
-told_value (failed e by) old new = refl
+told_value _ old new = refl
 
 -- its word is the same
 pub told_number : (n : ℕ) (k : Control) → control_word_of n (without_entry k) ≡ control_word_of n k
 told_number n unused = refl
-told_number n undecided = refl
-told_number n succeeded = refl
-told_number n withdrawn = refl
-told_number n (failed e by) = refl
+told_number n _ = refl
 
 pub told_undecided : (k : Control) → without_entry k ≡ undecided → k ≡ undecided
-told_undecided unused e = cc
 told_undecided undecided e = refl
-told_undecided succeeded e = cc
-told_undecided withdrawn e = cc
-told_undecided (failed i by) e = cc
+told_undecided _ e = cc
 
 pub told_failed : (k : Control) (e by : ℕ) → without_entry k ≡ failed e by → (i : ℕ) × (k ≡ failed i by)
-told_failed unused e by q = cc
-told_failed undecided e by q = cc
-told_failed succeeded e by q = cc
-told_failed withdrawn e by q = cc
 told_failed (failed i b) e by q = (i, (let same : b ≡ by = cc in λ t. failed i (same t)))
+told_failed _ e by q = cc
 
 -- ---- a control that a worker sets
 
 pub set_number : (n e : ℕ) (k : Control) → control_word_of n (with_entry e k) ≡ control_word_of n k
 set_number n e unused = refl
-set_number n e undecided = refl
-set_number n e succeeded = refl
-set_number n e withdrawn = refl
-set_number n e (failed i by) = refl
+set_number n e _ = refl
 
 pub set_decided : (z : Shape) (v : View) (e : ℕ) (k : Control) → IsResult z v k → IsDecided (with_entry e k)
 set_decided z v e unused h = absurd h
 set_decided z v e undecided h = absurd h
-set_decided z v e succeeded h = tt
-set_decided z v e withdrawn h = tt
-set_decided z v e (failed i by) h = tt
+set_decided z v e _ h = tt
 
 -- a set control that failed has this entry, and names its worker
 pub set_failed : (z : Shape) (v : View) (e : ℕ) (k : Control) → IsResult z v k → (f by : ℕ) → with_entry e k ≡ failed f by → (e ≡ f) × (by ≡ v.worker)

@@ -43,30 +43,20 @@ only_control : (w : World) (d : Ref) (r : Control) → IsDecided r
     → OnlyControl w (decided_world w d undecided r) (updated_ref w.control d r)
 only_control w d unused h = absurd h
 only_control w d undecided h = absurd h
-only_control w d succeeded h = record { cell = refl; control_is = refl; next_number = refl; marks_used = refl; counter = refl }
-only_control w d withdrawn h = record { cell = refl; control_is = refl; next_number = refl; marks_used = refl; counter = refl }
-only_control w d (failed e by) h = record { cell = refl; control_is = refl; next_number = refl; marks_used = refl; counter = refl }
+only_control w d _ h = record { cell = refl; control_is = refl; next_number = refl; marks_used = refl; counter = refl }
 
 pub decided_before : (w : World) (d : Ref) (k r : Control) → is_undecided k ≡ false → decided_world w d k r ≡ w
-decided_before w d unused r h = refl
 decided_before w d undecided r h = absurd (true≢false h)
-decided_before w d succeeded r h = refl
-decided_before w d withdrawn r h = refl
-decided_before w d (failed e by) r h = refl
+decided_before w d _ r h = refl
 
 undecided_is : (k : Control) → is_undecided k ≡ true → k ≡ undecided
-undecided_is unused h = absurd (true≢false (sym h))
 undecided_is undecided h = refl
-undecided_is succeeded h = absurd (true≢false (sym h))
-undecided_is withdrawn h = absurd (true≢false (sym h))
-undecided_is (failed e by) h = absurd (true≢false (sym h))
+undecided_is _ h = absurd (true≢false (sym h))
 
 decided_closed : (k : Control) → IsDecided k → is_undecided k ≡ false
 decided_closed unused h = absurd h
 decided_closed undecided h = absurd h
-decided_closed succeeded h = refl
-decided_closed withdrawn h = refl
-decided_closed (failed e by) h = refl
+decided_closed _ h = refl
 
 opened_decided : (k : Control) → IsDecided k → IsOpened k
 opened_decided k h e = subst IsDecided e h

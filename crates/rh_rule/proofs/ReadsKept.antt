@@ -4,7 +4,7 @@ use Rattle.rh_world.specs.World.{Cell, Control, In, IsDecided, IsOpened, IsUsed,
 use Rattle.rh_world.specs.World.Cell.{desc, mark, plain}
 use Rattle.rh_world.specs.World.Control.{failed, succeeded, undecided, unused, withdrawn}
 use Rattle.rh_world.specs.Facts.{HoldsIn, Fact, part_of}
-use Rattle.rh_world.specs.Facts.Fact.{decided, desc_is, failed_at, found, installed, known, may_demote, may_promote, met, mismatch, new_is, old_is, over, stale, size_is, target_is, which_is}
+use Rattle.rh_world.specs.Facts.Fact.{decided, desc_is, failed_at, found, known, may_demote, met, over, stale, size_is, which_is}
 use Rattle.rh_world.specs.Facts.Part.{of_rows}
 use Rattle.rh_world.specs.Sides.{Side, note_side}
 use Rattle.rh_world.specs.Rule.{Rule}
@@ -58,9 +58,7 @@ grows_control s d (failed e by) = grows_note s (decided d (failed e by))
 grows_mark : (s : Side) (x : Ref) (c : ℕ) (k : Control) → Grows s (mark_noted s x c k)
 grows_mark s x c unused = grows_none s
 grows_mark s x c undecided = grows_note s (Fact.may_promote x c)
-grows_mark s x c succeeded = grows_note s (Fact.may_demote x)
-grows_mark s x c withdrawn = grows_note s (Fact.may_demote x)
-grows_mark s x c (failed e by) = grows_note s (Fact.may_demote x)
+grows_mark s x c _ = grows_note s (Fact.may_demote x)
 
 -- what is noted of a control is how it is decided
 pub in_control : (s : Side) (d : Ref) (c : Control) (f : Ref) (r : Control) → In (decided f r) (control_noted s d c).facts
@@ -73,30 +71,14 @@ in_control s d (failed n by) f r i = ⊎_elim (λ (e : decided f r ≡ decided d
 
 in_mark : (s : Side) (x : Ref) (c : ℕ) (k : Control) (f : Ref) (r : Control) → In (decided f r) (mark_noted s x c k).facts → In (decided f r) s.facts
 in_mark s x c unused f r i = i
-in_mark s x c undecided f r i = ⊎_elim (λ e. cc) (λ j. j) i
-in_mark s x c succeeded f r i = ⊎_elim (λ e. cc) (λ j. j) i
-in_mark s x c withdrawn f r i = ⊎_elim (λ e. cc) (λ j. j) i
-in_mark s x c (failed n by) f r i = ⊎_elim (λ e. cc) (λ j. j) i
+in_mark s x c _ f r i = ⊎_elim (λ e. cc) (λ j. j) i
 
 -- d is known where a fact tells that it was opened
 tells_yes : (n : Fact) (d : Ref) → tells_opened n d ≡ true → ((n ≡ known d) ⊎ ((k : Control) × (n ≡ decided d k))) ⊎ (n ≡ met d)
 tells_yes (met f) d e = inr (ap met (is_ref_yes f d e))
 tells_yes (known f) d e = inl (inl (ap known (is_ref_yes f d e)))
-tells_yes (size_is f i) d e = absurd (true≢false (sym e))
-tells_yes (target_is f i c) d e = absurd (true≢false (sym e))
-tells_yes (old_is f i u) d e = absurd (true≢false (sym e))
-tells_yes (new_is f i u) d e = absurd (true≢false (sym e))
 tells_yes (decided f k) d e = inl (inr (k, ap (λ (x : Ref). decided x k) (is_ref_yes f d e)))
-tells_yes (over f) d e = absurd (true≢false (sym e))
-tells_yes (stale f) d e = absurd (true≢false (sym e))
-tells_yes (failed_at f i) d e = absurd (true≢false (sym e))
-tells_yes (desc_is x f) d e = absurd (true≢false (sym e))
-tells_yes (which_is x i) d e = absurd (true≢false (sym e))
-tells_yes (found x c) d e = absurd (true≢false (sym e))
-tells_yes (may_promote x c) d e = absurd (true≢false (sym e))
-tells_yes (may_demote x) d e = absurd (true≢false (sym e))
-tells_yes (installed f i) d e = absurd (true≢false (sym e))
-tells_yes (mismatch f i n) d e = absurd (true≢false (sym e))
+tells_yes _ d e = absurd (true≢false (sym e))
 
 known_yes : (ns : List Fact) (d : Ref) → is_known ns d ≡ true → IsKnown ns d
 known_yes [] d e = absurd (true≢false (sym e))
@@ -114,10 +96,7 @@ and_true {a} {b} p q = (λ i. p i && q i)
 
 pub unused_or : (k : Control) → (IsOpened k → ⊥) → k ≡ unused
 unused_or unused h = refl
-unused_or undecided h = absurd (h (λ q. cc))
-unused_or succeeded h = absurd (h (λ q. cc))
-unused_or withdrawn h = absurd (h (λ q. cc))
-unused_or (failed e by) h = absurd (h (λ q. cc))
+unused_or _ h = absurd (h (λ q. cc))
 
 -- ---- Sides that note no control
 
@@ -292,11 +271,8 @@ module _ (z : Shape) (words : List ℕ) (keep : ℕ → View) (w : World) (side 
   state_of_control d o = either (w.control d) refl
     where
       either : (c : Control) → w.control d ≡ c → HasState c
-      either unused e = tt
-      either undecided e = tt
-      either succeeded e = tt
-      either withdrawn e = tt
       either (failed f by) e = let few : z.workers ≤ 16 = z.workers_fit in let lt : by < z.workers = m.controls.deciders d f by e in (let q : by < 64 = omega arith in q)
+      either _ e = tt
 
   -- the control word of a worker that opened one
   pub newest_word : (d : Ref) → d.worker < z.workers → suc d.number ≡ w.next_number d.worker
@@ -413,9 +389,7 @@ module _ (z : Shape) (words : List ℕ) (keep : ℕ → View) (w : World) (side 
   -- while the row of d is its own, all that was read in it is true
   true_row : (d : Ref) → IsOpened (w.control d) → (u : RowWord) → IsRowSaid w d u → IsRowFact (desc_row_said d u) × HoldsIn w (desc_row_said d u)
   true_row d o (length_word n) s = (tt, (o, sym s))
-  true_row d o (cell_word e n) s = (tt, (o, sym s))
-  true_row d o (old_word e n) s = (tt, (o, sym s))
-  true_row d o (new_word e n) s = (tt, (o, sym s))
+  true_row d o _ s = (tt, (o, sym s))
 
   true_rows : (d : Ref) → IsOpened (w.control d) → HasItsRow z words d → (rs : List RawRow) → ((r : RawRow) → In r rs → In r k.raw_rows)
       → (n : Fact) → In n (rows_said rs d) → IsRowFact n × HoldsIn w n

@@ -96,10 +96,7 @@ HasState k = IsState (state_of k)
 
 of_state : (k : Control) → control_of (state_of k) ≡ without_entry k
 of_state unused = refl
-of_state undecided = refl
-of_state succeeded = refl
-of_state withdrawn = refl
-of_state (failed e by) = refl
+of_state _ = refl
 
 -- its word tells it, but for the entry at which it failed, and the number of its descriptor
 pub control_said_is : (n : ℕ) (k : Control) → HasState k → read_control (control_word_of n k) ≡ without_entry k
@@ -111,11 +108,8 @@ pub serial_said_is : (n : ℕ) (k : Control) → HasState k → serial_in (contr
 serial_said_is n k h = div-mul-add n (2 ^ 8) (state_number (state_of k)) (state_number_fits (state_of k) h)
 
 abbrev pub is_undecided : Control → Bool
-is_undecided unused = false
 is_undecided undecided = true
-is_undecided succeeded = false
-is_undecided withdrawn = false
-is_undecided (failed e by) = false
+is_undecided _ = false
 
 pub undecided_test : (n : ℕ) (k : Control) → HasState k → eqb (control_word_of n k) (control_word_of n undecided) ≡ is_undecided k
 undecided_test n unused h = ne_eqb (control_word_of n unused) (control_word_of n undecided) (λ q. omega (arith, q))

@@ -182,18 +182,11 @@ module _ (z : Shape) (words : List ℕ) (keep : ℕ → View) (w : World) (side 
       let f = true_note z words keep w side rule m who mine (found (ref_of x) c) tt refl may.0 in
       let is = true_note z words keep w side rule m who mine (desc_is (ref_of x) (ref_of d)) tt refl may.1 in
       control_finds (ref_of d) here (subst (λ (y : Ref). IsOpened (w.control y)) is.1 (rule.rows.used (ref_of x) f.0).0)
-  reads_find (reading.Serial d) here may = tt
-  reads_find (reading.Length d) here may = tt
-  reads_find (reading.EntryCell d e) here may = tt
-  reads_find (reading.EntryOld d e) here may = tt
-  reads_find (reading.EntryNew d e) here may = tt
   reads_find (reading.MarkSerial x) here may = λ u stands i.
       let r = h.raw record { mark = ref_of x; word = desc_word u } i in
       let d : Ref = w.mark_desc (ref_of x) in
       (d, ap desc_in (r.said stands) ∙ desc_said_is z d (m.controls.descs d (rule.rows.used (ref_of x) r.used).0))
-  reads_find (reading.MarkDesc x) here may = tt
-  reads_find (reading.MarkEntry x) here may = tt
-  reads_find (reading.Reason d by) here may = tt
+  reads_find _ here may = tt
 
   pub finds : (s : Step) → IsStep z v s → Finds z v s (get_or words (index z v s) 0)
   finds (Step.writes p u) may = tt

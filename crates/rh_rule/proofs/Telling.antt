@@ -4,7 +4,7 @@ use Rattle.rh_tagword.specs.Word.{tag_of}
 use Rattle.rh_world.specs.World.{Cell, Control, HasFailed, In, Ref, World, is_ref}
 use Rattle.rh_world.specs.World.Control.{succeeded}
 use Rattle.rh_world.specs.Facts.{Fact}
-use Rattle.rh_world.specs.Facts.Fact.{decided, desc_is, failed_at, found, installed, known, may_demote, may_promote, met, mismatch, new_is, old_is, over, stale, size_is, target_is, which_is}
+use Rattle.rh_world.specs.Facts.Fact.{decided, failed_at}
 use Rattle.rh_world.specs.Acts.{cells_after, is_success}
 use Rattle.rh_world.specs.Laws.{Foretold}
 use Rattle.rh_world.specs.Sides.{Side}
@@ -75,23 +75,8 @@ true_or true b e = refl
 true_or false b e = ⊎_elim (λ q. absurd (true≢false (sym q))) (λ q. q) e
 
 says_so : (n : Fact) (d : Ref) → says_success n d ≡ true → decided d succeeded ≡ n
-says_so (met f) d e = absurd (true≢false (sym e))
-says_so (known f) d e = absurd (true≢false (sym e))
-says_so (size_is f i) d e = absurd (true≢false (sym e))
-says_so (target_is f i c) d e = absurd (true≢false (sym e))
-says_so (old_is f i u) d e = absurd (true≢false (sym e))
-says_so (new_is f i u) d e = absurd (true≢false (sym e))
 says_so (decided f k) d e = let q = both (is_ref f d) (is_success k) e in λ i. decided (sym (is_ref_yes f d q.0) i) (sym (success_yes k q.1) i)
-says_so (over f) d e = absurd (true≢false (sym e))
-says_so (stale f) d e = absurd (true≢false (sym e))
-says_so (failed_at f i) d e = absurd (true≢false (sym e))
-says_so (desc_is x f) d e = absurd (true≢false (sym e))
-says_so (which_is x i) d e = absurd (true≢false (sym e))
-says_so (found x c) d e = absurd (true≢false (sym e))
-says_so (may_promote x c) d e = absurd (true≢false (sym e))
-says_so (may_demote x) d e = absurd (true≢false (sym e))
-says_so (installed f i) d e = absurd (true≢false (sym e))
-says_so (mismatch f i n) d e = absurd (true≢false (sym e))
+says_so _ d e = absurd (true≢false (sym e))
 
 ref_self : (d : Ref) → is_ref d d ≡ true
 ref_self d = ⊎_elim (λ p. p) (λ q. absurd (is_ref_no d d q refl)) (bool_cases (is_ref d d))

@@ -19,45 +19,27 @@ use Rattle.rh_rule.proofs.Kept.{DescsStay, MarksStay, Meets, Over, Quiet, kept_s
 pub own_part : (z : Shape) (u : ℕ) (q : Part) → u < z.workers → IsOwn z u q → IsPart z q
 own_part z u (part.Cell c) lt o = absurd o
 own_part z u (part.Control worker) lt o = absurd o
-own_part z u (part.Serial worker) lt o = subst (λ (x : ℕ). x < z.workers) (sym o) lt
-own_part z u (part.Length worker) lt o = subst (λ (x : ℕ). x < z.workers) (sym o) lt
 own_part z u (part.EntryCell worker n) lt o = (subst (λ (x : ℕ). x < z.workers) (sym o.0) lt, o.1)
 own_part z u (part.EntryOld worker n) lt o = (subst (λ (x : ℕ). x < z.workers) (sym o.0) lt, o.1)
 own_part z u (part.EntryNew worker n) lt o = (subst (λ (x : ℕ). x < z.workers) (sym o.0) lt, o.1)
-own_part z u (part.MarkSerial worker) lt o = subst (λ (x : ℕ). x < z.workers) (sym o) lt
-own_part z u (part.MarkDesc worker) lt o = subst (λ (x : ℕ). x < z.workers) (sym o) lt
-own_part z u (part.MarkEntry worker) lt o = subst (λ (x : ℕ). x < z.workers) (sym o) lt
 own_part z u (part.Reason worker owner) lt o = (subst (λ (x : ℕ). x < z.workers) (sym o.0) lt, o.1)
 own_part z u part.Counter lt o = absurd o
+own_part z u _ lt o = subst (λ (x : ℕ). x < z.workers) (sym o) lt
 
 -- a word of a descriptor row, of a mark row
 abbrev pub IsOfDesc : Part → Type 0
-IsOfDesc (part.Cell c) = ⊥
-IsOfDesc (part.Control worker) = ⊥
 IsOfDesc (part.Serial worker) = Unit {0}
 IsOfDesc (part.Length worker) = Unit {0}
 IsOfDesc (part.EntryCell worker n) = Unit {0}
 IsOfDesc (part.EntryOld worker n) = Unit {0}
 IsOfDesc (part.EntryNew worker n) = Unit {0}
-IsOfDesc (part.MarkSerial worker) = ⊥
-IsOfDesc (part.MarkDesc worker) = ⊥
-IsOfDesc (part.MarkEntry worker) = ⊥
-IsOfDesc (part.Reason worker owner) = ⊥
-IsOfDesc part.Counter = ⊥
+IsOfDesc _ = ⊥
 
 abbrev pub IsOfMark : Part → Type 0
-IsOfMark (part.Cell c) = ⊥
-IsOfMark (part.Control worker) = ⊥
-IsOfMark (part.Serial worker) = ⊥
-IsOfMark (part.Length worker) = ⊥
-IsOfMark (part.EntryCell worker n) = ⊥
-IsOfMark (part.EntryOld worker n) = ⊥
-IsOfMark (part.EntryNew worker n) = ⊥
 IsOfMark (part.MarkSerial worker) = Unit {0}
 IsOfMark (part.MarkDesc worker) = Unit {0}
 IsOfMark (part.MarkEntry worker) = Unit {0}
-IsOfMark (part.Reason worker owner) = ⊥
-IsOfMark part.Counter = ⊥
+IsOfMark _ = ⊥
 
 -- marks that are used up stay so
 pub marks_stay : (room : ℕ) (w v : World) → Steady w v → (u : ℕ) → room ≤ w.marks_used u → room ≤ v.marks_used u

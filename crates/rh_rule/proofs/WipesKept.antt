@@ -36,16 +36,12 @@ row_number z p v lt own =
     below : (p : Part) → IsOwn z v p → row_of z p < row_count z
     below (part.Cell c) o = absurd o
     below (part.Control worker) o = absurd o
-    below (part.Serial worker) o = omega arith
-    below (part.Length worker) o = omega arith
     below (part.EntryCell worker n) o = entry_inside (cell_count z) n 0 z.workers o.1 (omega arith)
     below (part.EntryOld worker n) o = entry_inside (cell_count z) n 1 z.workers o.1 (omega arith)
     below (part.EntryNew worker n) o = entry_inside (cell_count z) n 2 z.workers o.1 (omega arith)
-    below (part.MarkSerial worker) o = omega arith
-    below (part.MarkDesc worker) o = omega arith
-    below (part.MarkEntry worker) o = omega arith
     below (part.Reason worker owner) o = (let lt : owner < z.workers = o.1 in omega arith)
     below part.Counter o = absurd o
+    below _ o = omega arith
 
 control_number : (z : Shape) (worker : ℕ) → worker < z.workers → (i : ℕ) × (i < row_total z) × (index_of z (part.Control worker) ≡ cell_count z + i)
 control_number z worker lt =

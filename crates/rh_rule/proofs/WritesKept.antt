@@ -30,8 +30,6 @@ use Rattle.rh_rule.proofs.Touched.{IsOfDesc, IsOfMark, cells_same, controls_same
 
 -- a part of a worker's rows stands at its row
 pub own_index : (z : Shape) (u : ℕ) (q : Part) → IsOwn z u q → index_of z q ≡ row_index z u (row_of z q)
-own_index z u (part.Cell c) o = absurd o
-own_index z u (part.Control worker) o = absurd o
 own_index z u (part.Serial worker) o = ap (λ (x : ℕ). row_index z x (row_of z (part.Serial worker))) o
 own_index z u (part.Length worker) o = ap (λ (x : ℕ). row_index z x (row_of z (part.Length worker))) o
 own_index z u (part.EntryCell worker n) o = ap (λ (x : ℕ). row_index z x (row_of z (part.EntryCell worker n))) o.0
@@ -41,95 +39,59 @@ own_index z u (part.MarkSerial worker) o = ap (λ (x : ℕ). row_index z x (row_
 own_index z u (part.MarkDesc worker) o = ap (λ (x : ℕ). row_index z x (row_of z (part.MarkDesc worker))) o
 own_index z u (part.MarkEntry worker) o = ap (λ (x : ℕ). row_index z x (row_of z (part.MarkEntry worker))) o
 own_index z u (part.Reason worker owner) o = ap (λ (x : ℕ). row_index z x (row_of z (part.Reason worker owner))) o.0
-own_index z u part.Counter o = absurd o
+own_index z u _ o = absurd o
 
 one_owner : (z : Shape) (u v : ℕ) (q : Part) → IsOwn z u q → IsOwn z v q → u ≡ v
 one_owner z u v (part.Cell c) o i = absurd o
 one_owner z u v (part.Control worker) o i = absurd o
-one_owner z u v (part.Serial worker) o i = sym o ∙ i
-one_owner z u v (part.Length worker) o i = sym o ∙ i
 one_owner z u v (part.EntryCell worker n) o i = sym o.0 ∙ i.0
 one_owner z u v (part.EntryOld worker n) o i = sym o.0 ∙ i.0
 one_owner z u v (part.EntryNew worker n) o i = sym o.0 ∙ i.0
-one_owner z u v (part.MarkSerial worker) o i = sym o ∙ i
-one_owner z u v (part.MarkDesc worker) o i = sym o ∙ i
-one_owner z u v (part.MarkEntry worker) o i = sym o ∙ i
 one_owner z u v (part.Reason worker owner) o i = sym o.0 ∙ i.0
 one_owner z u v part.Counter o i = absurd o
+one_owner z u v _ o i = sym o ∙ i
 
 free_own : (z : Shape) (v : View) (q : Part) (u : ℕ) → IsFree z v q u → IsOwn z v.worker q
 free_own z v (part.Cell c) u f = f
 free_own z v (part.Control worker) u f = f
-free_own z v (part.Serial worker) u f = f.0
-free_own z v (part.Length worker) u f = f.0
 free_own z v (part.EntryCell worker n) u f = (f.0, f.3)
 free_own z v (part.EntryOld worker n) u f = (f.0, f.3)
 free_own z v (part.EntryNew worker n) u f = (f.0, f.3)
-free_own z v (part.MarkSerial worker) u f = f.0
-free_own z v (part.MarkDesc worker) u f = f.0
-free_own z v (part.MarkEntry worker) u f = f.0
 free_own z v (part.Reason worker owner) u f = (f.0, f.1)
 free_own z v part.Counter u f = f
+free_own z v _ u f = f.0
 
 -- a word of a descriptor row, or another
 of_desc_or : (q : Part) → IsOfDesc q ⊎ (IsOfDesc q → ⊥)
-of_desc_or (part.Cell c) = inr (λ o. o)
-of_desc_or (part.Control worker) = inr (λ o. o)
 of_desc_or (part.Serial worker) = inl tt
 of_desc_or (part.Length worker) = inl tt
 of_desc_or (part.EntryCell worker n) = inl tt
 of_desc_or (part.EntryOld worker n) = inl tt
 of_desc_or (part.EntryNew worker n) = inl tt
-of_desc_or (part.MarkSerial worker) = inr (λ o. o)
-of_desc_or (part.MarkDesc worker) = inr (λ o. o)
-of_desc_or (part.MarkEntry worker) = inr (λ o. o)
-of_desc_or (part.Reason worker owner) = inr (λ o. o)
-of_desc_or part.Counter = inr (λ o. o)
+of_desc_or _ = inr (λ o. o)
 
 -- a word of a mark row, or another
 of_mark_or : (q : Part) → IsOfMark q ⊎ (IsOfMark q → ⊥)
-of_mark_or (part.Cell c) = inr (λ o. o)
-of_mark_or (part.Control worker) = inr (λ o. o)
-of_mark_or (part.Serial worker) = inr (λ o. o)
-of_mark_or (part.Length worker) = inr (λ o. o)
-of_mark_or (part.EntryCell worker n) = inr (λ o. o)
-of_mark_or (part.EntryOld worker n) = inr (λ o. o)
-of_mark_or (part.EntryNew worker n) = inr (λ o. o)
 of_mark_or (part.MarkSerial worker) = inl tt
 of_mark_or (part.MarkDesc worker) = inl tt
 of_mark_or (part.MarkEntry worker) = inl tt
-of_mark_or (part.Reason worker owner) = inr (λ o. o)
-of_mark_or part.Counter = inr (λ o. o)
+of_mark_or _ = inr (λ o. o)
 
 -- it is written while nothing of the worker is open
 free_closed : (z : Shape) (v : View) (q : Part) (u : ℕ) → IsFree z v q u → IsOfDesc q → v.side.current ≡ None
-free_closed z v (part.Cell c) u f o = absurd o
-free_closed z v (part.Control worker) u f o = absurd o
 free_closed z v (part.Serial worker) u f o = f.1
 free_closed z v (part.Length worker) u f o = f.1
 free_closed z v (part.EntryCell worker n) u f o = f.1
 free_closed z v (part.EntryOld worker n) u f o = f.1
 free_closed z v (part.EntryNew worker n) u f o = f.1
-free_closed z v (part.MarkSerial worker) u f o = absurd o
-free_closed z v (part.MarkDesc worker) u f o = absurd o
-free_closed z v (part.MarkEntry worker) u f o = absurd o
-free_closed z v (part.Reason worker owner) u f o = absurd o
-free_closed z v part.Counter u f o = absurd o
+free_closed z v _ u f o = absurd o
 
 -- while no mark of the worker is unsettled
 free_settled : (z : Shape) (v : View) (q : Part) (u : ℕ) → IsFree z v q u → IsOfMark q → v.side.unsettled ≡ None
-free_settled z v (part.Cell c) u f o = absurd o
-free_settled z v (part.Control worker) u f o = absurd o
-free_settled z v (part.Serial worker) u f o = absurd o
-free_settled z v (part.Length worker) u f o = absurd o
-free_settled z v (part.EntryCell worker n) u f o = absurd o
-free_settled z v (part.EntryOld worker n) u f o = absurd o
-free_settled z v (part.EntryNew worker n) u f o = absurd o
 free_settled z v (part.MarkSerial worker) u f o = f.1
 free_settled z v (part.MarkDesc worker) u f o = f.1
 free_settled z v (part.MarkEntry worker) u f o = f.1
-free_settled z v (part.Reason worker owner) u f o = absurd o
-free_settled z v part.Counter u f o = absurd o
+free_settled z v _ u f o = absurd o
 
 module _ (z : Shape) (words : List ℕ) (keep : ℕ → View) (w : World) (side : ℕ → Side) (rule : Rule w side) (m : Represents z words keep w side) (who : ℕ) (mine : who < z.workers) where
   abbrev own : View
@@ -153,8 +115,6 @@ module _ (z : Shape) (words : List ℕ) (keep : ℕ → View) (w : World) (side 
 
     -- after it the descriptor row is of the next descriptor
     number_next : (q : Part) → IsFree z own q u → q ≡ p → IsOfDesc q → word_at z then (part.Serial who) ≡ w.next_number who
-    number_next (part.Cell c) f e o = absurd o
-    number_next (part.Control worker) f e o = absurd o
     number_next (part.Serial worker) f e o =
         let is : part.Serial who ≡ p = (λ i. part.Serial (sym (f.0 ∙ old.worker) i)) ∙ e in
         ap (λ (x : Part). word_at z then x) is ∙ word_new z words p u here m.sized ∙ f.2 ∙ old.next_number
@@ -166,21 +126,10 @@ module _ (z : Shape) (words : List ℕ) (keep : ℕ → View) (w : World) (side 
         word_same z words p u here (part.Serial who) mine (λ i. let no : part.Serial who ≡ part.EntryOld worker n = i ∙ sym e in cc) ∙ old.written (part.Serial who) refl ∙ f.2 ∙ old.next_number
     number_next (part.EntryNew worker n) f e o =
         word_same z words p u here (part.Serial who) mine (λ i. let no : part.Serial who ≡ part.EntryNew worker n = i ∙ sym e in cc) ∙ old.written (part.Serial who) refl ∙ f.2 ∙ old.next_number
-    number_next (part.MarkSerial worker) f e o = absurd o
-    number_next (part.MarkDesc worker) f e o = absurd o
-    number_next (part.MarkEntry worker) f e o = absurd o
-    number_next (part.Reason worker owner) f e o = absurd o
-    number_next part.Counter f e o = absurd o
+    number_next _ f e o = absurd o
 
     -- after it the mark row is of the next mark
     serial_next : (q : Part) → IsFree z own q u → q ≡ p → IsOfMark q → word_at z then (part.MarkSerial who) ≡ w.marks_used who
-    serial_next (part.Cell c) f e o = absurd o
-    serial_next (part.Control worker) f e o = absurd o
-    serial_next (part.Serial worker) f e o = absurd o
-    serial_next (part.Length worker) f e o = absurd o
-    serial_next (part.EntryCell worker n) f e o = absurd o
-    serial_next (part.EntryOld worker n) f e o = absurd o
-    serial_next (part.EntryNew worker n) f e o = absurd o
     serial_next (part.MarkSerial worker) f e o =
         let is : part.MarkSerial who ≡ p = (λ i. part.MarkSerial (sym (f.0 ∙ old.worker) i)) ∙ e in
         ap (λ (x : Part). word_at z then x) is ∙ word_new z words p u here m.sized ∙ f.2 ∙ old.marks_used
@@ -188,8 +137,7 @@ module _ (z : Shape) (words : List ℕ) (keep : ℕ → View) (w : World) (side 
         word_same z words p u here (part.MarkSerial who) mine (λ i. let no : part.MarkSerial who ≡ part.MarkDesc worker = i ∙ sym e in cc) ∙ old.written (part.MarkSerial who) refl ∙ f.2 ∙ old.marks_used
     serial_next (part.MarkEntry worker) f e o =
         word_same z words p u here (part.MarkSerial who) mine (λ i. let no : part.MarkSerial who ≡ part.MarkEntry worker = i ∙ sym e in cc) ∙ old.written (part.MarkSerial who) refl ∙ f.2 ∙ old.marks_used
-    serial_next (part.Reason worker owner) f e o = absurd o
-    serial_next part.Counter f e o = absurd o
+    serial_next _ f e o = absurd o
 
     -- the rows of the other workers' marks stay
     others_same : (v : ℕ) → v < z.workers → v ≢ who → (q : Part) → IsOwn z v q → word_at z then q ≡ word_at z words q

@@ -3,7 +3,7 @@ use Rattle.std.proofs.Common.{◌≡◌, ◌≢◌, ℕ, zero, suc, ◌<◌, ◌
 use native.Mathlib.Decide.{dec_lt}
 use Rattle.rh_world.specs.World.{Cell, Control, In, IsDecided, IsOpened, Ref, World, updated, updated_ref}
 use Rattle.rh_world.specs.World.Cell.{desc, mark, plain}
-use Rattle.rh_world.specs.World.Control.{failed, succeeded, undecided, unused, withdrawn}
+use Rattle.rh_world.specs.World.Control.{failed, succeeded, undecided, unused}
 use Rattle.rh_world.specs.Logical.{EntryStandsFor, IsLogical, StandsFor, Takes, changed_by, entry_value}
 use Rattle.rh_world.specs.Facts.{HoldsIn, Fact, part_of}
 use Rattle.rh_world.specs.Facts.Part.{of_acts}
@@ -19,18 +19,13 @@ use Rattle.rh_world.proofs.Stays.{acts_fact_stays}
 use Rattle.rh_world.proofs.Updated.{decided_opened, ref_path, same_nat, some_not_none, undecided_open, updated_at, updated_else, updated_here, updated_ref_at, updated_ref_here}
 
 pub is_succeeded : (k : Control) → (k ≡ succeeded) ⊎ (k ≢ succeeded)
-is_succeeded unused = inr (λ e. cc)
-is_succeeded undecided = inr (λ e. cc)
 is_succeeded succeeded = inl refl
-is_succeeded withdrawn = inr (λ e. cc)
 is_succeeded (failed e by) = inr (λ e. cc)
+is_succeeded _ = inr (λ e. cc)
 
 pub chosen_old : (k : Control) (o n : ℕ) → k ≢ succeeded → entry_value k o n ≡ o
-chosen_old unused o n h = refl
-chosen_old undecided o n h = refl
 chosen_old succeeded o n h = absurd (h refl)
-chosen_old withdrawn o n h = refl
-chosen_old (failed e by) o n h = refl
+chosen_old _ o n h = refl
 
 chosen_same : (k j : Control) (o n : ℕ) → (k ≡ succeeded → j ≡ succeeded) → (j ≡ succeeded → k ≡ succeeded)
     → entry_value j o n ≡ entry_value k o n

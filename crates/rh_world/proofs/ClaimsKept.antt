@@ -57,17 +57,11 @@ cell_claims s c (desc d) q acts next = refl
 
 control_claims : (s : Side) (d : Ref) (k : Control) → (control_noted s d k).claims ≡ s.claims
 control_claims s d unused = refl
-control_claims s d undecided = refl
-control_claims s d succeeded = refl
-control_claims s d withdrawn = refl
-control_claims s d (failed e by) = refl
+control_claims s d _ = refl
 
 mark_claims : (s : Side) (x : Ref) (c : ℕ) (k : Control) → (mark_noted s x c k).claims ≡ s.claims
 mark_claims s x c unused = refl
-mark_claims s x c undecided = refl
-mark_claims s x c succeeded = refl
-mark_claims s x c withdrawn = refl
-mark_claims s x c (failed e by) = refl
+mark_claims s x c _ = refl
 
 either_claims : (s t r : Side) (b : Bool) → s.claims ≡ r.claims → t.claims ≡ r.claims → (cond b s t).claims ≡ r.claims
 either_claims s t r true p q = p

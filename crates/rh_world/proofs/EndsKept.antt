@@ -3,7 +3,7 @@ use Rattle.std.proofs.Common.{◌≡◌, ◌≢◌, ℕ, zero, suc, ◌+◌, ◌
 use native.Mathlib.Decide.{dec_lt}
 use Rattle.rh_world.specs.World.{Cell, Control, HasFailed, In, Ref, World}
 use Rattle.rh_world.specs.World.Cell.{desc, mark, plain}
-use Rattle.rh_world.specs.World.Control.{failed, succeeded, undecided, unused, withdrawn}
+use Rattle.rh_world.specs.World.Control.{failed}
 use Rattle.rh_world.specs.Logical.{IsLogical, StandsFor, changed_by}
 use Rattle.rh_world.specs.Facts.{IsPrefix}
 use Rattle.rh_world.specs.Sides.{Side, new_side}
@@ -150,21 +150,15 @@ rest_is_settled w side r rest = record {
 
 -- the acts before a failed descriptor
 abbrev failed_acts_of : (w : World) (side : ℕ → Side) (d : Ref) → Prefixes w side → (k : Control) → w.control d ≡ k → ℕ
-failed_acts_of w side d p unused e = 0
-failed_acts_of w side d p undecided e = 0
-failed_acts_of w side d p succeeded e = 0
-failed_acts_of w side d p withdrawn e = 0
 failed_acts_of w side d p (failed i by) e = (p.failed d i (by, e)).acts
+failed_acts_of w side d p _ e = 0
 
 failed_facts : (w : World) (side : ℕ → Side) (d : Ref) (p : Prefixes w side) (i by : ℕ) (k : Control) (e : w.control d ≡ k)
     → k ≡ failed i by → (t : FailedAt w side d i) × (failed_acts_of w side d p k e ≡ t.acts)
-failed_facts w side d p i by unused e q = cc
-failed_facts w side d p i by undecided e q = cc
-failed_facts w side d p i by succeeded e q = cc
-failed_facts w side d p i by withdrawn e q = cc
 failed_facts w side d p i by (failed j decider) e q =
     let same : j ≡ i = cc in
     subst (λ (x : ℕ). (t : FailedAt w side d x) × ((p.failed d j (decider, e)).acts ≡ t.acts)) same (p.failed d j (decider, e), refl)
+failed_facts w side d p i by _ e q = cc
 
 pub prefixes_say : PrefixesSay
 prefixes_say w side r =

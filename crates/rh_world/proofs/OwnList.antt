@@ -1,7 +1,7 @@
 -- A worker's acts are, in order, its descriptors that succeeded.
 use Rattle.std.proofs.Common.{◌≡◌, ◌≢◌, ℕ, zero, suc, eqb, ◌<◌, ◌≤◌, ◌⊎◌, Bool, true, false, true≢false, cond, List, [], ◌∷◌, sym, refl, ap, ◌∙◌, subst, inl, inr, ⊎_elim, arith, eq-eqb, ne_eqb}
 use Rattle.rh_world.specs.World.{Control, In, IsFalling, IsOpened, Ref, World}
-use Rattle.rh_world.specs.World.Control.{failed, succeeded, undecided, unused, withdrawn}
+use Rattle.rh_world.specs.World.Control.{succeeded}
 use Rattle.rh_world.specs.Sides.{Side}
 use Rattle.rh_world.specs.Acts.{Acts, is_success, own_acts, successes_of}
 use Rattle.rh_world.proofs.ActsKept.{succeeded_opened}
@@ -60,11 +60,8 @@ module _ (w : World) (side : ℕ → Side) (a : Acts w side) (v : ℕ) where
       (same_nat (w.act n).worker v)
 
 pub success_yes : (k : Control) → is_success k ≡ true → k ≡ succeeded
-success_yes unused e = absurd (true≢false (sym e))
-success_yes undecided e = absurd (true≢false (sym e))
 success_yes succeeded e = refl
-success_yes withdrawn e = absurd (true≢false (sym e))
-success_yes (failed n by) e = absurd (true≢false (sym e))
+success_yes _ e = absurd (true≢false (sym e))
 
 kept_from : (b : Bool) (y n : ℕ) (ns : List ℕ) → In y (cond b (n ∷ ns) ns) → ((b ≡ true) × (y ≡ n)) ⊎ In y ns
 kept_from true y n ns j = ⊎_elim (λ p. inl (refl, p)) inr j

@@ -61,61 +61,30 @@ module _ (w v : World) (side : ℕ → Side) (rows : Rows w side) where
   rows_fact_stays l (new_is d e u) p t = (l.opened d t.0, l.new d e t.0 ∙ t.1)
   rows_fact_stays l (decided d k) p t = (t.0, l.decided d (subst IsDecided (sym t.1) t.0) ∙ t.1)
   rows_fact_stays l (over d) p t = subst IsDecided (sym (l.decided d t)) t
-  rows_fact_stays l (stale d) p t = cc
   rows_fact_stays l (failed_at d e) p t = (t.0, l.decided d (subst IsDecided (sym t.1) tt) ∙ t.1)
   rows_fact_stays l (desc_is x d) p t = (l.marks x t.0, l.mark_desc x t.0 ∙ t.1)
   rows_fact_stays l (which_is x e) p t = (l.marks x t.0, l.mark_entry x t.0 ∙ t.1)
   rows_fact_stays l (found x c) p t =
       let h = rows.used x t.0 in
       (l.marks x t.0, (ap (λ (f : Ref). v.target f (v.mark_entry x)) (l.mark_desc x t.0) ∙ (ap (λ (e : ℕ). v.target (w.mark_desc x) e) (l.mark_entry x t.0) ∙ (l.target (w.mark_desc x) (w.mark_entry x) h.0 ∙ t.1))))
-  rows_fact_stays l (may_promote x c) p t = cc
   rows_fact_stays l (may_demote x) p t = (l.marks x t.0, subst IsDecided (sym (ap v.control (l.mark_desc x t.0) ∙ l.decided (w.mark_desc x) t.1)) t.1)
-  rows_fact_stays l (installed d e) p t = cc
-  rows_fact_stays l (mismatch d e n) p t = cc
+  rows_fact_stays l _ p t = cc
 
   pub acts_fact_stays : Later w v → (n : Fact) → part_of n ≡ of_acts → HoldsIn w n → HoldsIn v n
-  acts_fact_stays l (met d) p t = cc
-  acts_fact_stays l (known d) p t = cc
-  acts_fact_stays l (size_is d n) p t = cc
-  acts_fact_stays l (target_is d e c) p t = cc
-  acts_fact_stays l (old_is d e u) p t = cc
-  acts_fact_stays l (new_is d e u) p t = cc
-  acts_fact_stays l (decided d k) p t = cc
-  acts_fact_stays l (over d) p t = cc
   acts_fact_stays l (stale d) p t =
       let same : v.control d ≡ w.control d = l.decided d t.0 in (
         subst IsDecided (sym same) t.0,
         λ s c here. ⊎_elim (λ stood. t.1 (sym same ∙ s) c stood) (λ fails. fails s) (l.came c d (decided_opened _ t.0) here),
       )
-  acts_fact_stays l (failed_at d e) p t = cc
-  acts_fact_stays l (desc_is x d) p t = cc
-  acts_fact_stays l (which_is x e) p t = cc
-  acts_fact_stays l (found x c) p t = cc
   acts_fact_stays l (may_promote x c) p t = (l.marks x t.0, λ s q. t.1 (l.stood c x t.0 s) (l.late c x t.0 s (ap v.control (sym (l.mark_desc x t.0)) ∙ q)))
-  acts_fact_stays l (may_demote x) p t = cc
   acts_fact_stays l (installed d e) p t = (l.opened d t.0, λ u. ap v.cell (l.target d e t.0) ∙ l.stays (w.target d e) d (t.1 (l.was_undecided d t.0 u)) u)
-  acts_fact_stays l (mismatch d e n) p t = cc
+  acts_fact_stays l _ p t = cc
 
   pub prefixes_fact_stays : Steady w v → (n : Fact) → part_of n ≡ of_prefixes → HoldsIn w n → HoldsIn v n
-  prefixes_fact_stays l (met d) p t = cc
-  prefixes_fact_stays l (known d) p t = cc
-  prefixes_fact_stays l (size_is d n) p t = cc
-  prefixes_fact_stays l (target_is d e c) p t = cc
-  prefixes_fact_stays l (old_is d e u) p t = cc
-  prefixes_fact_stays l (new_is d e u) p t = cc
-  prefixes_fact_stays l (decided d k) p t = cc
-  prefixes_fact_stays l (over d) p t = cc
-  prefixes_fact_stays l (stale d) p t = cc
-  prefixes_fact_stays l (failed_at d e) p t = cc
-  prefixes_fact_stays l (desc_is x d) p t = cc
-  prefixes_fact_stays l (which_is x e) p t = cc
-  prefixes_fact_stays l (found x c) p t = cc
-  prefixes_fact_stays l (may_promote x c) p t = cc
-  prefixes_fact_stays l (may_demote x) p t = cc
-  prefixes_fact_stays l (installed d e) p t = cc
   prefixes_fact_stays l (mismatch d e n) p t = (
     l.opened d t.0,
     λ u.
         let before = l.was_undecided d t.0 u in
         mismatch_stays w v l d e n t.0 (λ f fu s. let q = one_undecided w side d f rows before fu s in omega arith) (t.1 before),
   )
+  prefixes_fact_stays l _ p t = cc

@@ -46,9 +46,7 @@ module _ (A P : Type 0) where
         → Partly A P w (updated side who s) → Partly A P w (updated side who (mark_noted s x c k))
     step_mark x c unused u e s h = h
     step_mark x c undecided u e s h = more_note w side who s (may_promote x c) (u, λ q t. let a : undecided ≡ succeeded = sym e ∙ t in cc) h
-    step_mark x c succeeded u e s h = more_note w side who s (may_demote x) (u, subst IsDecided (sym e) tt) h
-    step_mark x c withdrawn u e s h = more_note w side who s (may_demote x) (u, subst IsDecided (sym e) tt) h
-    step_mark x c (failed n by) u e s h = more_note w side who s (may_demote x) (u, subst IsDecided (sym e) tt) h
+    step_mark x c _ u e s h = more_note w side who s (may_demote x) (u, subst IsDecided (sym e) tt) h
 
     found_is : (c : ℕ) (x : Ref) → w.cell c ≡ mark x → HoldsIn w (found x c)
     found_is c x e = let m = r.rows.marks c x e in (m.used, m.here)

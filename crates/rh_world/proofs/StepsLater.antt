@@ -9,7 +9,7 @@ use Rattle.rh_world.specs.Sides.{Side}
 use Rattle.rh_world.specs.Rows.{Rows}
 use Rattle.rh_world.specs.Acts.{Acts}
 use Rattle.rh_world.specs.Moves.{IsAllowed, KnowsOver, MayDecide, MayWork, Move, cell_world, decided_world, is_desc, is_mark, is_plain, next_desc, next_mark, place_world, released_cell, settled_cell, world_after}
-use Rattle.rh_world.specs.Moves.Move.{claims, decides, learns, opens, places, reads_cell, reads_control, reads_mark_control, releases, settles}
+use Rattle.rh_world.specs.Moves.Move.{claims, decides, opens, places, releases, settles}
 use Rattle.rh_world.proofs.Laters.{later_cell, later_claim, later_decide, later_open, later_place, later_same, later_succeed}
 use Rattle.rh_world.proofs.Tests.{eqb_yes, is_desc_yes, is_mark_yes}
 
@@ -59,14 +59,11 @@ known_over w side who d rows (inr gone) = rows.facts who (over d) gone.0 refl
 
 pub steps_later : (w : World) (side : ℕ → Side) (who : ℕ) (m : Move) → Rows w side → Acts w side
     → IsAllowed w side who m → Later w (world_after w who m)
-steps_later w side who (learns ns) rows acts may = later_same w
 steps_later w side who (opens p) rows acts may = later_open w side (next_desc w who) p rows record { next = refl; can = may }
-steps_later w side who (reads_cell c) rows acts may = later_same w
-steps_later w side who (reads_control d) rows acts may = later_same w
-steps_later w side who (reads_mark_control x c) rows acts may = later_same w
 steps_later w side who (places d e) rows acts may = placed_later w side who d e (w.cell (w.target d e)) rows refl may.0 may.1 (is_plain (w.cell (w.target d e)) (w.old d e)) refl
 steps_later w side who (settles x c true) rows acts may = settled_later w c x true (is_mark (w.cell c) x) refl (λ t here. (acts.facts who (may_promote x c) may.1 refl).1 here)
 steps_later w side who (settles x c false) rows acts may = settled_later w c x false (is_mark (w.cell c) x) refl (λ t. absurd (true≢false (sym t)))
 steps_later w side who (decides d x) rows acts may = decided_later w side who d (w.control d) x rows acts refl may.1
 steps_later w side who (releases d e) rows acts may = released_later w d e (known_over w side who d rows may.1) (is_desc (w.cell (w.target d e)) d) refl
 steps_later w side who claims rows acts may = later_claim w
+steps_later w side who _ rows acts may = later_same w
