@@ -28,66 +28,43 @@ use Rattle.rh_helping.proofs.Sides.{DecidesNone, none_control, none_note, none_t
 
 pub over_decided : (k : State) → IsOver k → IsDecided (control_of k)
 over_decided Unused o = o
-over_decided Undecided o = o
-over_decided Succeeded o = o
-over_decided Withdrawn o = o
-over_decided (Failed by) o = o
+over_decided _ o = o
 
 pub decided_over : (k : State) → IsDecided (control_of k) → IsOver k
 decided_over Unused o = o
-decided_over Undecided o = o
-decided_over Succeeded o = o
-decided_over Withdrawn o = o
-decided_over (Failed by) o = o
+decided_over _ o = o
 
 pub is_decided_over : (k : State) → is_decided k ≡ true → IsOver k
 is_decided_over Unused e = absurd (true≢false (sym e))
 is_decided_over Undecided e = absurd (true≢false (sym e))
-is_decided_over Succeeded e = tt
-is_decided_over Withdrawn e = tt
-is_decided_over (Failed by) e = tt
+is_decided_over _ e = tt
 
 abbrev tells_undecided : WorldControl → Bool
-tells_undecided unused = false
 tells_undecided undecided = true
-tells_undecided succeeded = false
-tells_undecided withdrawn = false
-tells_undecided (failed e by) = false
+tells_undecided _ = false
 
 abbrev tells_used : WorldControl → Bool
 tells_used unused = false
-tells_used undecided = true
-tells_used succeeded = true
-tells_used withdrawn = true
-tells_used (failed e by) = true
+tells_used _ = true
 
 abbrev is_undecided : State → Bool
-is_undecided Unused = false
 is_undecided Undecided = true
-is_undecided Succeeded = false
-is_undecided Withdrawn = false
-is_undecided (Failed by) = false
+is_undecided _ = false
 
 pub over_not : (k : State) → IsOver k → k ≢ Undecided
 over_not Unused o e = o
 over_not Undecided o e = o
-over_not Succeeded o e = true≢false (sym (ap is_undecided e))
-over_not Withdrawn o e = true≢false (sym (ap is_undecided e))
-over_not (Failed by) o e = true≢false (sym (ap is_undecided e))
+over_not _ o e = true≢false (sym (ap is_undecided e))
 
 pub opened_over : (k : State) → IsOpened (control_of k) → k ≢ Undecided → IsOver k
 opened_over Unused o ne = o refl
 opened_over Undecided o ne = ne refl
-opened_over Succeeded o ne = tt
-opened_over Withdrawn o ne = tt
-opened_over (Failed by) o ne = tt
+opened_over _ o ne = tt
 
 pub stands_undecided : (l : List Fact) (d : Ref) (k : State) (e : ℕ) → StandsAt l d k e → is_decided k ≡ false → k ≡ Undecided
 stands_undecided l d Unused e h no_ = absurd h
 stands_undecided l d Undecided e h no_ = refl
-stands_undecided l d Succeeded e h no_ = absurd (true≢false no_)
-stands_undecided l d Withdrawn e h no_ = absurd (true≢false no_)
-stands_undecided l d (Failed by) e h no_ = absurd (true≢false no_)
+stands_undecided l d _ e h no_ = absurd (true≢false no_)
 
 abbrev state_or : State → Option State → State
 state_or other None = other
@@ -170,12 +147,8 @@ said_none n word is e = true≢false (sym (ap is_some (is ∙ ap (λ (b : Bool).
 -- ---- what is so after a control was seen
 
 abbrev pub debts_told : List Debt → Ref → Option State → List Debt
-debts_told debts d None = debts
-debts_told debts d (Some Unused) = debts
 debts_told debts d (Some Undecided) = filter (λ q. not (is_ref q.desc d)) debts
-debts_told debts d (Some Succeeded) = debts
-debts_told debts d (Some Withdrawn) = debts
-debts_told debts d (Some (Failed by)) = debts
+debts_told debts d _ = debts
 
 abbrev pub ToldAs : View → Ref → Option State → Type 0
 ToldAs next d None = In (over d) next.side.facts × In (stale d) next.side.facts
@@ -210,77 +183,36 @@ module _ (v : View) (d : Ref) (c : ℕ) where
   met_decided : (k : State) → IsOver k → StandsAt (told_view (Some k)).side.facts d k 0 → (d.worker ≡ v.worker → suc d.number ≡ v.next_number) → IsMet (told_view (Some k)) d k 0
   met_decided k o stands last = record { stands = stands; fresh = λ u. absurd (over_not k o u); last = last }
 
+  abbrev noted_view : Option State → List Fact → View
+  noted_view r facts = record v { side = record v.side { facts = facts; debts = debts_told v.side.debts d r }; control = c }
+
+  saw_noted : (r : Option State) (facts : List Fact) → ((n : Fact) → In n v.side.facts → In n facts) → ToldAs (noted_view r facts) d r
+      → Saw v d r (noted_view r facts)
+  saw_noted r facts more told = record {
+    keeps = record { worker = refl; next_number = refl; facts = more };
+    marks_used = refl;
+    opened = refl;
+    written = refl;
+    current = refl;
+    released = refl;
+    unsettled = refl;
+    debts = refl;
+    reads = refl;
+    claims = refl;
+    told = told;
+  }
+
   saw : (r : Option State) → Known v d r → Saw v d r (told_view r)
-  saw None h = record {
-    keeps = record { worker = refl; next_number = refl; facts = λ n i. inr (inr i) };
-    marks_used = refl;
-    opened = refl;
-    written = refl;
-    current = refl;
-    released = refl;
-    unsettled = refl;
-    debts = refl;
-    reads = refl;
-    claims = refl;
-    told = (inr (inl refl), inl refl);
-  }
+  saw None h = saw_noted None (stale d ∷ over d ∷ v.side.facts) (λ n i. inr (inr i)) (inr (inl refl), inl refl)
   saw (Some Unused) h = absurd (h.0 refl)
-  saw (Some Undecided) h = record {
-    keeps = record { worker = refl; next_number = refl; facts = λ n i. inr i };
-    marks_used = refl;
-    opened = refl;
-    written = refl;
-    current = refl;
-    released = refl;
-    unsettled = refl;
-    debts = refl;
-    reads = refl;
-    claims = refl;
-    told = record {
-      stands = (inl refl, λ f lt. no_entry_before _ f lt);
-      fresh = λ u f same i. h.1 u f same (none_note (failed 0 v.worker) (known d) v.side.facts refl f i);
-      last = h.2;
-    };
-  }
-  saw (Some Succeeded) h = record {
-    keeps = record { worker = refl; next_number = refl; facts = λ n i. inr i };
-    marks_used = refl;
-    opened = refl;
-    written = refl;
-    current = refl;
-    released = refl;
-    unsettled = refl;
-    debts = refl;
-    reads = refl;
-    claims = refl;
-    told = met_decided Succeeded tt (inl refl) h.2;
-  }
-  saw (Some Withdrawn) h = record {
-    keeps = record { worker = refl; next_number = refl; facts = λ n i. inr i };
-    marks_used = refl;
-    opened = refl;
-    written = refl;
-    current = refl;
-    released = refl;
-    unsettled = refl;
-    debts = refl;
-    reads = refl;
-    claims = refl;
-    told = met_decided Withdrawn tt (inl refl) h.2;
-  }
-  saw (Some (Failed by)) h = record {
-    keeps = record { worker = refl; next_number = refl; facts = λ n i. inr i };
-    marks_used = refl;
-    opened = refl;
-    written = refl;
-    current = refl;
-    released = refl;
-    unsettled = refl;
-    debts = refl;
-    reads = refl;
-    claims = refl;
-    told = met_decided (Failed by) tt (inl refl) h.2;
-  }
+  saw (Some Undecided) h = saw_noted (Some Undecided) (known d ∷ v.side.facts) (λ n i. inr i) (record {
+    stands = (inl refl, λ f lt. no_entry_before _ f lt);
+    fresh = λ u f same i. h.1 u f same (none_note (failed 0 v.worker) (known d) v.side.facts refl f i);
+    last = h.2;
+  })
+  saw (Some Succeeded) h = saw_noted (Some Succeeded) (decided d succeeded ∷ v.side.facts) (λ n i. inr i) (met_decided Succeeded tt (inl refl) h.2)
+  saw (Some Withdrawn) h = saw_noted (Some Withdrawn) (decided d withdrawn ∷ v.side.facts) (λ n i. inr i) (met_decided Withdrawn tt (inl refl) h.2)
+  saw (Some (Failed by)) h = saw_noted (Some (Failed by)) (decided d (failed 0 by) ∷ v.side.facts) (λ n i. inr i) (met_decided (Failed by) tt (inl refl) h.2)
 
 -- and one thing more is noted, that is no decision
 saw_more : (v : View) (d : Ref) (r : Option State) (next : View) (n : Fact) → tells_decided n ≡ false → Saw v d r next → Saw v d r (record next { side = note_side next.side n })
@@ -338,20 +270,14 @@ module _ (v : View) (d : Ref) (word : ℕ) (tells : ControlTells v d word) where
 -- ---- of a mark's descriptor
 
 abbrev pub MarkedAs : View → (x : Ref) → (c : ℕ) → Option State → Type 0
-MarkedAs next x c None = In (may_demote x) next.side.facts
 MarkedAs next x c (Some Unused) = ⊥
 MarkedAs next x c (Some Undecided) = In (may_promote x c) next.side.facts
-MarkedAs next x c (Some Succeeded) = In (may_demote x) next.side.facts
-MarkedAs next x c (Some Withdrawn) = In (may_demote x) next.side.facts
-MarkedAs next x c (Some (Failed by)) = In (may_demote x) next.side.facts
+MarkedAs next x c _ = In (may_demote x) next.side.facts
 
 pub marked_demotes : (next : View) (x : Ref) (c : ℕ) (r : Option State) → MarkedAs next x c r → r ≢ Some Undecided → In (may_demote x) next.side.facts
-marked_demotes next x c None h ne = h
 marked_demotes next x c (Some Unused) h ne = absurd h
 marked_demotes next x c (Some Undecided) h ne = absurd (ne refl)
-marked_demotes next x c (Some Succeeded) h ne = h
-marked_demotes next x c (Some Withdrawn) h ne = h
-marked_demotes next x c (Some (Failed by)) h ne = h
+marked_demotes next x c _ h ne = h
 
 module _ (v : View) (x d : Ref) (at c : ℕ) where
   abbrev pub marked_view : Option State → View
@@ -387,24 +313,15 @@ module _ (v : View) (x d : Ref) (at c : ℕ) where
 
 without : (k : State) → without_entry (control_of k) ≡ control_of k
 without Unused = refl
-without Undecided = refl
-without Succeeded = refl
-without Withdrawn = refl
-without (Failed by) = refl
+without _ = refl
 
 state_back : (k : State) → state_of (control_of k) ≡ k
 state_back Unused = refl
-state_back Undecided = refl
-state_back Succeeded = refl
-state_back Withdrawn = refl
-state_back (Failed by) = refl
+state_back _ = refl
 
 undecided_without : (c : WorldControl) → without_entry c ≡ undecided → c ≡ undecided
-undecided_without unused e = e
-undecided_without undecided e = e
-undecided_without succeeded e = e
-undecided_without withdrawn e = e
 undecided_without (failed i by) e = absurd (true≢false (sym (ap tells_undecided e)))
+undecided_without _ e = e
 
 -- a control word that tells that d is undecided is this one
 undecided_word : (word n : ℕ) → IsControlWord word → serial_in word ≡ n → read_control word ≡ undecided → word ≡ control_word_of n undecided
@@ -459,9 +376,7 @@ module _ (v : View) (d : Ref) (k : State) (over_k : IsOver k) (state : IsState k
       opened_of : (q : State) → IsOver q → IsOpened (control_of q)
       opened_of Unused o = absurd o
       opened_of Undecided o = absurd o
-      opened_of Succeeded o = λ e. true≢false (ap tells_used e)
-      opened_of Withdrawn o = λ e. true≢false (ap tells_used e)
-      opened_of (Failed by) o = λ e. true≢false (ap tells_used e)
+      opened_of _ o = λ e. true≢false (ap tells_used e)
 
   pub decided_other : (opens : Option OwnDesc) → KnowsOwn v opens → (r : Option State) → option_map control_of r ≡ state_said d.number word → r ≡ None → IsOther v d
   decided_other opens own r is none mine current =

@@ -42,17 +42,13 @@ stands_known l d k e h = inl (stands_seen l d k e h)
 pub stands_decided : (l : List Fact) (d : Ref) (k : State) (e : ℕ) → IsOver k → StandsAt l d k e → In (decided d (control_of k)) l
 stands_decided l d Unused e o h = absurd o
 stands_decided l d Undecided e o h = absurd o
-stands_decided l d Succeeded e o h = h
-stands_decided l d Withdrawn e o h = h
-stands_decided l d (Failed by) e o h = h
+stands_decided l d _ e o h = h
 
 -- a decided descriptor stands so at each of its entries
 pub stands_anywhere : (l : List Fact) (d : Ref) (k : State) (e f : ℕ) → IsOver k → StandsAt l d k e → StandsAt l d k f
 stands_anywhere l d Unused e f o h = absurd o
 stands_anywhere l d Undecided e f o h = absurd o
-stands_anywhere l d Succeeded e f o h = h
-stands_anywhere l d Withdrawn e f o h = h
-stands_anywhere l d (Failed by) e f o h = h
+stands_anywhere l d _ e f o h = h
 
 pub met_anywhere : (v : View) (d : Ref) (k : State) (e f : ℕ) → IsOver k → IsMet v d k e → IsMet v d k f
 met_anywhere v d k e f o h = record { stands = stands_anywhere v.side.facts d k e f o h.stands; fresh = h.fresh; last = h.last }
@@ -163,9 +159,7 @@ module _ (v next : View) (keeps : Keeps v next) where
         owes_as_sub : (t : Task) (k : State) → OwesAs v t k → OwesAs next t k
         owes_as_sub t Unused h = nothing_sub h
         owes_as_sub t Undecided h = nothing_sub h
-        owes_as_sub t Succeeded h = releases_sub t h
-        owes_as_sub t Withdrawn h = releases_sub t h
-        owes_as_sub t (Failed by) h = releases_sub t h
+        owes_as_sub t _ h = releases_sub t h
 
         pub owes_sub : (t : Task) → Owes v t → Owes next t
         owes_sub t h = owes_as_sub t t.state h

@@ -1,7 +1,7 @@
 -- The cell that a worker holds, by what is so of it between two of its steps.
 use Rattle.std.proofs.Common.{◌≡◌, ℕ, inl, inr, refl, sym, subst, Bool, Option, Some, None}
 use Rattle.rh_tagword.specs.declared.control.State.{State}
-use Rattle.rh_tagword.specs.declared.control.State.TheVariants.{Unused, Undecided, Succeeded, Withdrawn, Failed}
+use Rattle.rh_tagword.specs.declared.control.State.TheVariants.{Unused, Undecided}
 use Rattle.rh_world.specs.World.{Ref, In}
 use Rattle.rh_world.specs.Facts.Fact.{desc_is, found, old_is, size_is, target_is}
 use Rattle.rh_words.specs.declared.shape.Shape.{Shape}
@@ -41,9 +41,7 @@ released_held v d e size (Some o) known settled owes =
 task_held : (v : View) (t : Task) (k : State) → t.state ≡ k → KnowsTask v t → OwesAs v t k → IsHeld v t.owed
 task_held v t Unused is h owes = absurd (subst (λ (s : State). StandsAt v.side.facts (ref_of t.desc) s t.entry) is h.met.stands)
 task_held v t Undecided is h owes = subst (IsHeld v) (sym (h.unowed is)) (none_held v owes)
-task_held v t Succeeded is h owes = released_held v (ref_of t.desc) t.entry t.size t.owed h.size owes.settled owes.owes
-task_held v t Withdrawn is h owes = released_held v (ref_of t.desc) t.entry t.size t.owed h.size owes.settled owes.owes
-task_held v t (Failed by) is h owes = released_held v (ref_of t.desc) t.entry t.size t.owed h.size owes.settled owes.owes
+task_held v t _ is h owes = released_held v (ref_of t.desc) t.entry t.size t.owed h.size owes.settled owes.owes
 
 placed_held : (v : View) (p : Placed) → IsMarkPlaced v p → IsHeld v (Some (owed_of p.goal))
 placed_held v p h =
@@ -64,9 +62,6 @@ swapped_held : (v : View) (g : Goal) (promoted : Bool) → IsSwapped v g promote
 swapped_held v g promoted h = (goal_old v g h.goal, inr (h.settled, h.owes))
 
 pub work_held : (z : Shape) (v : View) (w : Work) → Stands z v w → IsHeld v (held_by w)
-work_held z v (work.Control d) h = none_held v h.0
-work_held z v (work.Length d k) h = none_held v h.0
-work_held z v (work.LengthSerial d k n) h = none_held v h.0
 work_held z v (work.EntryCell t) h = task_held v t t.state refl h.0.task h.0.owes
 work_held z v (work.EntryOld t c) h = task_held v t t.state refl h.0.task h.0.owes
 work_held z v (work.EntryNew t c o) h = task_held v t t.state refl h.0.task h.0.owes
@@ -83,10 +78,10 @@ work_held z v (work.Recheck g promoted) h = swapped_held v g promoted h
 work_held z v (work.WriteReason t) h = none_held v (subst (OwesAs v t) h.undecided h.at.owes)
 work_held z v (work.Fail t) h = none_held v (subst (OwesAs v t) h.0.undecided h.0.at.owes)
 work_held z v (work.Succeed t) h = none_held v h.3
-work_held z v (work.Withdraw d) h = none_held v h.0
 work_held z v (work.ReadReason t by) h = task_held v t t.state refl h.0.task h.0.owes
 work_held z v (work.Release g) h = released_held v (ref_of g.task.desc) g.task.entry g.task.size g.task.owed h.0.task.size h.2.settled h.2.owes
 work_held z v (work.GiveBack o) h = (record { work = h.work; cell = h.cell; old = h.old }, inr (h.settled, h.owes))
+work_held z v _ h = none_held v h.0
 
 pub looking_held : (z : Shape) (v : View) (l : Looking) → IsLooking z v l → IsHeld v (held_in l)
 looking_held z v looking.Read h = none_held v h.owes

@@ -260,11 +260,7 @@ module _ (z : Shape) (v : View) (es : List Entry) (may : MayOpen z v es) where
 
   is_kind : (o : Opening) → kind_of (opening_step v es o) ≡ kind_of_opening o
   is_kind opening.Serial = refl
-  is_kind opening.Length = refl
-  is_kind (opening.Cell e) = refl
-  is_kind (opening.Old e) = refl
-  is_kind (opening.New e) = refl
-  is_kind opening.Open = refl
+  is_kind _ = refl
 
   pub opening_made : {T : Type 0} {shows : Shape → T → View → Type 0} {makes : Shape → Step → T → View → ℕ → T → View → Type 0} (o : Opening) (s : Step) (t : T) (word : ℕ) (then : T) (next : View) (on : Option Opening)
       → Knows z v → IsOpening v es o → s ≡ opening_step v es o → on ≡ after_opening (length es) o → Went shows makes z s t v word then next

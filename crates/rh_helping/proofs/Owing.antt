@@ -1,7 +1,7 @@
 -- What a worker owes once its descriptor is decided, and what it owes when it comes to one.
 use Rattle.std.proofs.Common.{◌≡◌, ℕ, ◌<◌, ◌⊎◌, Bool, true, false, true≢false, Option, Some, None, List, [], ◌∷◌, filter, not, sym, refl, ap, ◌∙◌, subst, inl, inr, ⊎_elim, arith}
 use Rattle.rh_tagword.specs.declared.control.State.{State}
-use Rattle.rh_tagword.specs.declared.control.State.TheVariants.{Unused, Undecided, Succeeded, Withdrawn, Failed}
+use Rattle.rh_tagword.specs.declared.control.State.TheVariants.{Unused, Undecided}
 use Rattle.rh_world.specs.World.{In, Ref, is_ref}
 use Rattle.rh_world.specs.Facts.Fact.{old_is, over, stale, size_is, target_is}
 use Rattle.rh_world.specs.Moves.{MayWork}
@@ -51,28 +51,20 @@ module _ (v : View) (t : Task) (first : t.entry ≡ 0) where
 pub owes_as_from : (v : View) (t : Task) (k : State) → (IsOver k → Releases v t) → OwesNothing v → OwesAs v t k
 owes_as_from v t Unused r h = h
 owes_as_from v t Undecided r h = h
-owes_as_from v t Succeeded r h = r tt
-owes_as_from v t Withdrawn r h = r tt
-owes_as_from v t (Failed by) r h = r tt
+owes_as_from v t _ r h = r tt
 
 pub owes_over : (v : View) (t : Task) (k : State) → IsOver k → Releases v t → OwesAs v t k
 owes_over v t Unused o h = absurd o
 owes_over v t Undecided o h = absurd o
-owes_over v t Succeeded o h = h
-owes_over v t Withdrawn o h = h
-owes_over v t (Failed by) o h = h
+owes_over v t _ o h = h
 
 -- who owes nothing has nothing to forget
 pub forget_nothing : (f : Debt → Bool) (debts : List Debt) → debts ≡ [] → filter f debts ≡ debts
 forget_nothing f debts e = subst (λ (l : List Debt). filter f l ≡ l) (sym e) refl
 
 pub debts_same : (debts : List Debt) (d : Ref) (r : Option State) → debts ≡ [] → debts_told debts d r ≡ debts
-debts_same debts d None e = refl
-debts_same debts d (Some Unused) e = refl
 debts_same debts d (Some Undecided) e = forget_nothing (λ q. not (is_ref q.desc d)) debts e
-debts_same debts d (Some Succeeded) e = refl
-debts_same debts d (Some Withdrawn) e = refl
-debts_same debts d (Some (Failed by)) e = refl
+debts_same debts d _ e = refl
 
 -- a control that is seen leaves who owes nothing so
 pub nothing_saw : (v next : View) (d : Ref) (r : Option State) → Saw v d r next → OwesNothing v → OwesNothing next
@@ -100,9 +92,7 @@ module _ (v next : View) (g : Grows v next) (t : Task) (h : IsAt v t) (foreign :
       by : (k : State) → t.state ≡ k → OwesAs v t k → OwesNothing v
       by Unused is h = h
       by Undecided is h = h
-      by Succeeded is h = released h
-      by Withdrawn is h = released h
-      by (Failed who) is h = released h
+      by _ is h = released h
 
   left_releases : (o : Owed) → t.owed ≡ Some o → Releases v t
   left_releases o some = by t.state refl h.owes
@@ -117,9 +107,7 @@ module _ (v next : View) (g : Grows v next) (t : Task) (h : IsAt v t) (foreign :
       by : (k : State) → t.state ≡ k → OwesAs v t k → Releases v t
       by Unused is q = absurd (subst (λ (k : State). StandsAt v.side.facts d k t.entry) is h.task.met.stands)
       by Undecided is q = absurd (some_not (sym some ∙ h.task.unowed is))
-      by Succeeded is q = q
-      by Withdrawn is q = q
-      by (Failed who) is q = q
+      by _ is q = q
 
   left_by : (owed : Option Owed) → t.owed ≡ owed → IsGivenUp next d owed
   left_by None none = (nothing_grows v next g (left_nothing none), gone.1)

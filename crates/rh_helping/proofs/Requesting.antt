@@ -50,12 +50,7 @@ IsOf s k = (kind_of s ≡ k) × IsOnDescs s
 
 pub of_mark : (s : Settles) → IsOf (asked_of_mark s) (kind_of_settling s)
 of_mark (settles.Desc x c) = (refl, tt)
-of_mark (settles.Entry x c u) = (refl, tt)
-of_mark (settles.Serial x c u e) = (refl, tt)
-of_mark (settles.Control x p) = (refl, tt)
-of_mark (settles.Old x p) = (refl, tt)
-of_mark (settles.OldSerial x p old) = (refl, tt)
-of_mark (settles.Settle x p old) = (refl, tt)
+of_mark _ = (refl, tt)
 
 -- ---- with a descriptor
 
@@ -85,29 +80,8 @@ may_request z v k opens own (work.Release g) h = may_release z v k g h.0 h.1 _ r
 may_request z v k opens own (work.GiveBack o) h = may_give_back z v k o h
 
 pub of_work : (v : View) (w : Work) → IsOf (requested v w) (kind_of_work w)
-of_work v (work.Control d) = (refl, tt)
-of_work v (work.Length d k) = (refl, tt)
-of_work v (work.LengthSerial d k n) = (refl, tt)
-of_work v (work.EntryCell t) = (refl, tt)
-of_work v (work.EntryOld t c) = (refl, tt)
-of_work v (work.EntryNew t c o) = (refl, tt)
-of_work v (work.EntrySerial g) = (refl, tt)
-of_work v (work.MarkSerial g) = (refl, tt)
-of_work v (work.MarkDesc g) = (refl, tt)
-of_work v (work.MarkEntry g) = (refl, tt)
-of_work v (work.Place g) = (refl, tt)
 of_work v (work.Settle s g) = of_mark s
-of_work v (work.MarkControl p) = (refl, tt)
-of_work v (work.Promote p) = (refl, tt)
-of_work v (work.Demote p k) = (refl, tt)
-of_work v (work.Recheck g promoted) = (refl, tt)
-of_work v (work.WriteReason t) = (refl, tt)
-of_work v (work.Fail t) = (refl, tt)
-of_work v (work.Succeed t) = (refl, tt)
-of_work v (work.Withdraw d) = (refl, tt)
-of_work v (work.ReadReason t by) = (refl, tt)
-of_work v (work.Release g) = (refl, tt)
-of_work v (work.GiveBack o) = (refl, tt)
+of_work v _ = (refl, tt)
 
 -- ---- so the step that it asks for and makes is one of its work
 

@@ -1,16 +1,16 @@
 -- What a step that is no Release leaves of a Side, and that it notes more.
-use Rattle.std.proofs.Common.{◌≡◌, ℕ, Bool, true, false, true≢false, Option, Some, None, ◌⊎◌, List, [], ◌∷◌, ◌++◌, eqb, refl, sym, ap, ◌∙◌, subst, inl, inr, ⊎_elim}
+use Rattle.std.proofs.Common.{◌≡◌, ℕ, Bool, true, false, true≢false, Option, Some, None, ◌⊎◌, List, [], ◌∷◌, ◌++◌, eqb, refl, ap, ◌∙◌, subst, inl, inr, ⊎_elim}
 use Rattle.rh_world.specs.World.{Cell, Control, In, Ref, is_ref}
 use Rattle.rh_world.specs.World.Cell.{desc, mark, plain}
 use Rattle.rh_world.specs.World.Control.{failed, succeeded, undecided, unused, withdrawn}
 use Rattle.rh_world.specs.Facts.{Fact}
-use Rattle.rh_world.specs.Facts.Fact.{decided, desc_is, failed_at, found, installed, known, may_demote, may_promote, met, mismatch, new_is, old_is, over, stale, size_is, target_is, which_is}
+use Rattle.rh_world.specs.Facts.Fact.{decided, desc_is, found, installed, known, met, mismatch, which_is}
 use Rattle.rh_world.specs.Sides.{Side, note_side}
 use Rattle.rh_world.specs.Moves.{control_noted, mark_noted, note_all, place_noted, placed_noted, settle_noted}
 use Rattle.rh_world.proofs.Tests.{by_cond}
 use Rattle.rh_words.specs.View.{MarkWord, Raw, RawRow, RowWord}
 use Rattle.rh_words.specs.View.MarkWord.{desc_word, entry_word}
-use Rattle.rh_words.specs.View.RowWord.{cell_word, length_word, new_word, old_word}
+use Rattle.rh_words.specs.View.RowWord.{length_word}
 use Rattle.rh_words.specs.Words.{desc_in}
 use Rattle.rh_words.specs.Steps.{desc_row_said, desc_said, stale_noted, mark_said, row_said, rows_said}
 
@@ -40,10 +40,7 @@ more_control s d (failed e by) = more_note s (decided d (failed e by))
 
 pub more_mark : (s t : Side) (x : Ref) (c : ℕ) (k : Control) → More s t → More s (mark_noted t x c k)
 more_mark s t x c unused m = m
-more_mark s t x c undecided m = record { current = m.current; released = m.released; reads = m.reads; claims = m.claims; facts = λ n i. inr (m.facts n i) }
-more_mark s t x c succeeded m = record { current = m.current; released = m.released; reads = m.reads; claims = m.claims; facts = λ n i. inr (m.facts n i) }
-more_mark s t x c withdrawn m = record { current = m.current; released = m.released; reads = m.reads; claims = m.claims; facts = λ n i. inr (m.facts n i) }
-more_mark s t x c (failed e by) m = record { current = m.current; released = m.released; reads = m.reads; claims = m.claims; facts = λ n i. inr (m.facts n i) }
+more_mark s t x c _ m = record { current = m.current; released = m.released; reads = m.reads; claims = m.claims; facts = λ n i. inr (m.facts n i) }
 
 pub more_place : (s : Side) (x d : Ref) (e c old : ℕ) (n : Cell) → More s (place_noted s x d e c old n 0)
 more_place s x d e c old (plain u) = by_cond (λ (t : Side). More s t) (eqb u old) (placed_noted s x d e c) (note_side s (mismatch d e 0))
@@ -62,23 +59,8 @@ more_stale s d = record { current = refl; released = refl; reads = refl; claims 
 -- ---- no descriptor is newly noted as decided so
 
 abbrev pub tells_decided : Fact → Bool
-tells_decided (met d) = false
-tells_decided (known d) = false
-tells_decided (size_is d n) = false
-tells_decided (target_is d e c) = false
-tells_decided (old_is d e u) = false
-tells_decided (new_is d e u) = false
 tells_decided (decided d k) = true
-tells_decided (over d) = false
-tells_decided (stale d) = false
-tells_decided (failed_at d e) = false
-tells_decided (desc_is x d) = false
-tells_decided (which_is x e) = false
-tells_decided (found x c) = false
-tells_decided (may_promote x c) = false
-tells_decided (may_demote x) = false
-tells_decided (installed d e) = false
-tells_decided (mismatch d e n) = false
+tells_decided _ = false
 
 -- each descriptor that is noted as decided so in the second list is noted so in the first
 abbrev pub DecidesNone : Control → (l m : List Fact) → Type 0
@@ -100,9 +82,7 @@ none_all k s (n ∷ ns) other = none_then k s.facts (note_all s ns).facts (note_
 -- what rows say is no such fact
 row_tells : (d : Ref) (u : RowWord) → tells_decided (desc_row_said d u) ≡ false
 row_tells d (length_word u) = refl
-row_tells d (cell_word e u) = refl
-row_tells d (old_word e u) = refl
-row_tells d (new_word e u) = refl
+row_tells d _ = refl
 
 pub rows_tell : (rs : List RawRow) (d : Ref) (n : Fact) → In n (rows_said rs d) → tells_decided n ≡ false
 rows_tell [] d n i = absurd i
@@ -126,47 +106,12 @@ marks_tell [] x n i = absurd i
 marks_tell (r ∷ rs) x n i = by_cond (λ (l : List Fact). In n l → tells_decided n ≡ false) (is_ref r.mark x) (mark_said x r.word ++ row_said rs x) (row_said rs x)
     (λ yes j. ⊎_elim (mark_tells x r.word n) (marks_tell rs x n) (in_either n (mark_said x r.word) (row_said rs x) j)) (λ no. marks_tell rs x n) i
 
-abbrev decided_desc : (other : Ref) → Fact → Ref
-decided_desc d (met f) = d
-decided_desc d (known f) = d
-decided_desc d (size_is f n) = d
-decided_desc d (target_is f e c) = d
-decided_desc d (old_is f e u) = d
-decided_desc d (new_is f e u) = d
-decided_desc d (decided f k) = f
-decided_desc d (over f) = d
-decided_desc d (stale f) = d
-decided_desc d (failed_at f e) = d
-decided_desc d (desc_is x f) = d
-decided_desc d (which_is x e) = d
-decided_desc d (found x c) = d
-decided_desc d (may_promote x c) = d
-decided_desc d (may_demote x) = d
-decided_desc d (installed f e) = d
-decided_desc d (mismatch f e n) = d
-
-abbrev decided_control : (other : Control) → Fact → Control
-decided_control k (met f) = k
-decided_control k (known f) = k
-decided_control k (size_is f n) = k
-decided_control k (target_is f e c) = k
-decided_control k (old_is f e u) = k
-decided_control k (new_is f e u) = k
-decided_control k (decided f q) = q
-decided_control k (over f) = k
-decided_control k (stale f) = k
-decided_control k (failed_at f e) = k
-decided_control k (desc_is x f) = k
-decided_control k (which_is x e) = k
-decided_control k (found x c) = k
-decided_control k (may_promote x c) = k
-decided_control k (may_demote x) = k
-decided_control k (installed f e) = k
-decided_control k (mismatch f e n) = k
-
 none_decided : (k : Control) (s : Side) (d : Ref) (said : Control) → (said ≡ k → In (decided d k) s.facts) → DecidesNone k s.facts (decided d said ∷ s.facts)
 none_decided k s d said had f i = ⊎_elim
-    (λ (e : decided f k ≡ decided d said). subst (λ (y : Ref). In (decided y k) s.facts) (sym (ap (decided_desc d) e)) (had (sym (ap (decided_control k) e))))
+    (λ (e : decided f k ≡ decided d said).
+    let same : said ≡ k = cc in
+    let here : d ≡ f = cc in
+    subst (λ (y : Ref). In (decided y k) s.facts) here (had same))
     (λ j. j) i
 
 -- a control tells how its descriptor is decided
