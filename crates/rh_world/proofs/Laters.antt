@@ -1,5 +1,5 @@
 -- Each change that a step makes in the world is one that steps may make.
-use Rattle.std.proofs.Common.{◌≡◌, ◌≢◌, ℕ, suc, ◌<◌, sym, refl, ap, ◌∙◌, subst, inl, inr, ⊎_elim, arith}
+use Rattle.std.proofs.Common.{◌≡◌, ◌≢◌, ℕ, suc, ◌<◌, ◌≤◌, sym, refl, ap, ◌∙◌, subst, inl, inr, ⊎_elim, arith}
 use Rattle.rh_world.specs.World.{Cell, Control, IsDecided, IsOpened, IsUsed, Ref, World, updated, updated_ref}
 use Rattle.rh_world.specs.World.Cell.{desc, mark, plain}
 use Rattle.rh_world.specs.World.Control.{succeeded, undecided}
@@ -11,34 +11,49 @@ use Rattle.rh_world.specs.Moves.{Entries, cell_world, claim_world, decide_world,
 use Rattle.rh_world.proofs.Conditions.{OpensNext, PlacesNext}
 use Rattle.rh_world.proofs.Updated.{decided_opened, undecided_open, updated_at, updated_else, updated_here, updated_ref_at, updated_ref_else}
 
+-- a step that leaves the entries and the marks as they are
+steady_state : (w : World) (cell : ℕ → Cell) (control : Ref → Control) (counter act_count : ℕ) (act : ℕ → Ref) (logical : ℕ → ℕ → ℕ)
+    → ((j : ℕ) (x : Ref) → cell j ≡ mark x → w.cell j ≡ mark x)
+    → ((j : ℕ) (d : Ref) → w.cell j ≡ desc d → control d ≡ undecided → cell j ≡ desc d)
+    → ((d : Ref) → IsOpened (w.control d) → IsOpened (control d))
+    → ((d : Ref) → IsDecided (w.control d) → control d ≡ w.control d)
+    → ((d : Ref) → control d ≡ undecided → w.control d ≡ undecided)
+    → w.counter ≤ counter → w.act_count ≤ act_count
+    → ((i : ℕ) → i < w.act_count → act i ≡ w.act i)
+    → ((n j : ℕ) → n ≤ w.act_count → logical n j ≡ w.logical n j)
+    → ((i : ℕ) → w.act_count ≤ i → i < act_count → w.control (act i) ≡ undecided)
+    → Steady w (record w { cell = cell; control = control; counter = counter; act_count = act_count; act = act; logical = logical })
+steady_state w cell control counter act_count act logical stood stays opened decided und more_claims more_acts acts logicals fresh = record {
+  opened = opened;
+  size = λ d h. refl;
+  target = λ d e h. refl;
+  old = λ d e h. refl;
+  new = λ d e h. refl;
+  acts_before = λ d h. refl;
+  decided = decided;
+  marks = λ x h. h;
+  mark_desc = λ x h. refl;
+  mark_entry = λ x h. refl;
+  stood = λ j x h e. stood j x e;
+  stays = stays;
+  workers = refl;
+  keys = refl;
+  counter = more_claims;
+  act_count = more_acts;
+  act = acts;
+  logical = logicals;
+  fresh = fresh;
+  was_undecided = λ d h u. und d u;
+}
+
 -- a cell alone changes: from a mark, or from a decided descriptor, to no mark
 pub steady_cell : (w : World) (c : ℕ) (k : Cell) → ((x : Ref) → k ≢ mark x)
     → ((d : Ref) → w.cell c ≡ desc d → IsDecided (w.control d)) → Steady w (cell_world w c k)
 steady_cell w c k clean over =
-    let back : (j : ℕ) (x : Ref) → updated w.cell c k j ≡ mark x → w.cell j ≡ mark x =
-    λ j x e. ⊎_elim (λ p. absurd (clean x (sym p.1 ∙ e))) (λ p. sym p.1 ∙ e) (updated_at w.cell c j k) in
-    record {
-      opened = λ d h. h;
-      size = λ d h. refl;
-      target = λ d e h. refl;
-      old = λ d e h. refl;
-      new = λ d e h. refl;
-      acts_before = λ d h. refl;
-      decided = λ d h. refl;
-      marks = λ x h. h;
-      mark_desc = λ x h. refl;
-      mark_entry = λ x h. refl;
-      stood = λ j x h e. back j x e;
-      stays = λ j d e u. ⊎_elim (λ p. absurd (undecided_open _ u (over d (ap w.cell (sym p.0) ∙ e)))) (λ p. p.1 ∙ e) (updated_at w.cell c j k);
-      workers = refl;
-      keys = refl;
-      counter = omega arith;
-      act_count = omega arith;
-      act = λ i h. refl;
-      logical = λ n j h. refl;
-      fresh = λ i a b. absurd (omega arith);
-      was_undecided = λ d h u. u;
-    }
+    steady_state w (updated w.cell c k) w.control w.counter w.act_count w.act w.logical
+    (λ j x e. ⊎_elim (λ p. absurd (clean x (sym p.1 ∙ e))) (λ p. sym p.1 ∙ e) (updated_at w.cell c j k))
+    (λ j d e u. ⊎_elim (λ p. absurd (undecided_open _ u (over d (ap w.cell (sym p.0) ∙ e)))) (λ p. p.1 ∙ e) (updated_at w.cell c j k))
+    (λ d h. h) (λ d h. refl) (λ d u. u) (omega arith) (omega arith) (λ i h. refl) (λ n j h. refl) (λ i a b. absurd (omega arith))
 
 opened_not : (w : World) (side : ℕ → Side) (d f : Ref) → Rows w side → d.number ≡ w.next_number d.worker
     → IsOpened (w.control f) → f ≢ d
@@ -111,109 +126,45 @@ steady_place w side x d e rows can =
       was_undecided = λ f h u. u;
     }
 
+-- d is decided as r; where acts come behind those there, they are of d
+steady_control : (w : World) (d : Ref) (r : Control) (act_count : ℕ) (act : ℕ → Ref) (logical : ℕ → ℕ → ℕ)
+    → w.control d ≡ undecided → IsDecided r → w.act_count ≤ act_count
+    → ((i : ℕ) → i < w.act_count → act i ≡ w.act i)
+    → ((n j : ℕ) → n ≤ w.act_count → logical n j ≡ w.logical n j)
+    → ((i : ℕ) → w.act_count ≤ i → i < act_count → act i ≡ d)
+    → Steady w (record w { control = updated_ref w.control d r; act_count = act_count; act = act; logical = logical })
+steady_control w d r act_count act logical und dec more acts logicals fresh =
+    let other : (f : Ref) → IsDecided (w.control f) → f ≢ d = λ f h q. undecided_open (w.control f) (ap w.control q ∙ und) h in
+    steady_state w w.cell (updated_ref w.control d r) w.counter act_count act logical (λ j x e. e) (λ j f e u. e)
+    (λ f h. ⊎_elim (λ p q. decided_opened r dec (sym p.1 ∙ q)) (λ p q. h (sym p.1 ∙ q)) (updated_ref_at w.control d f r))
+    (λ f h. updated_ref_else w.control d f r (other f h))
+    (λ f u. ⊎_elim (λ p. ap w.control p.0 ∙ und) (λ p. sym p.1 ∙ u) (updated_ref_at w.control d f r))
+    (omega arith) more acts logicals (λ i a b. ap w.control (fresh i a b) ∙ und)
+
 -- d is decided as r, and not as a success
 pub steady_decide : (w : World) (d : Ref) (r : Control) → w.control d ≡ undecided → IsDecided r → r ≢ succeeded
     → Steady w (decide_world w d r)
-steady_decide w d r und dec fail =
-    let other : (f : Ref) → IsDecided (w.control f) → f ≢ d = λ f h q. undecided_open (w.control f) (ap w.control q ∙ und) h in
-    record {
-      opened = λ f h. ⊎_elim (λ p q. decided_opened r dec (sym p.1 ∙ q)) (λ p q. h (sym p.1 ∙ q)) (updated_ref_at w.control d f r);
-      size = λ f h. refl;
-      target = λ f e h. refl;
-      old = λ f e h. refl;
-      new = λ f e h. refl;
-      acts_before = λ f h. refl;
-      decided = λ f h. updated_ref_else w.control d f r (other f h);
-      marks = λ y h. h;
-      mark_desc = λ y h. refl;
-      mark_entry = λ y h. refl;
-      stood = λ j y h q. q;
-      stays = λ j f q u. q;
-      workers = refl;
-      keys = refl;
-      counter = omega arith;
-      act_count = omega arith;
-      act = λ i h. refl;
-      logical = λ n j h. refl;
-      fresh = λ i a b. absurd (omega arith);
-      was_undecided = λ f h u. ⊎_elim (λ p. ap w.control p.0 ∙ und) (λ p. sym p.1 ∙ u) (updated_ref_at w.control d f r);
-    }
+steady_decide w d r und dec fail = steady_control w d r w.act_count w.act w.logical und dec (omega arith) (λ i h. refl) (λ n j h. refl) (λ i a b. absurd (omega arith))
 
 -- d succeeds
 pub steady_succeed : (w : World) (d : Ref) → w.control d ≡ undecided → Steady w (succeed_world w d)
 steady_succeed w d und =
-    let other : (f : Ref) → IsDecided (w.control f) → f ≢ d = λ f h q. undecided_open (w.control f) (ap w.control q ∙ und) h in
-    record {
-      opened = λ f h. ⊎_elim (λ p q. decided_opened succeeded tt (sym p.1 ∙ q)) (λ p q. h (sym p.1 ∙ q)) (updated_ref_at w.control d f succeeded);
-      size = λ f h. refl;
-      target = λ f e h. refl;
-      old = λ f e h. refl;
-      new = λ f e h. refl;
-      acts_before = λ f h. refl;
-      decided = λ f h. updated_ref_else w.control d f succeeded (other f h);
-      marks = λ y h. h;
-      mark_desc = λ y h. refl;
-      mark_entry = λ y h. refl;
-      stood = λ j y h q. q;
-      stays = λ j f q u. q;
-      workers = refl;
-      keys = refl;
-      counter = omega arith;
-      act_count = omega arith;
-      act = λ i h. updated_else w.act w.act_count i d (λ q. absurd (omega arith));
-      logical = λ n j h. ap (λ (g : ℕ → ℕ). g j) (updated_else w.logical (suc w.act_count) n (changed_by w d (w.size d) (w.logical w.act_count)) (λ q. absurd (omega arith)));
-      fresh = λ i a b. ap w.control (updated_here w.act w.act_count i d (omega arith)) ∙ und;
-      was_undecided = λ f h u. ⊎_elim (λ p. ap w.control p.0 ∙ und) (λ p. sym p.1 ∙ u) (updated_ref_at w.control d f succeeded);
-    }
+    steady_control w d succeeded (succeed_world w d).act_count (succeed_world w d).act (succeed_world w d).logical und tt (omega arith)
+    (λ i h. updated_else w.act w.act_count i d (λ q. absurd (omega arith)))
+    (λ n j h. ap (λ (g : ℕ → ℕ). g j) (updated_else w.logical (suc w.act_count) n (changed_by w d (w.size d) (w.logical w.act_count)) (λ q. absurd (omega arith))))
+    (λ i a b. updated_here w.act w.act_count i d (omega arith))
+
+-- the counter alone changes, and grows
+steady_counter : (w : World) (n : ℕ) → w.counter ≤ n → Steady w (record w { counter = n })
+steady_counter w n more =
+    steady_state w w.cell w.control n w.act_count w.act w.logical (λ j x e. e) (λ j d e u. e)
+    (λ d h. h) (λ d h. refl) (λ d u. u) more (omega arith) (λ i h. refl) (λ n j h. refl) (λ i a b. absurd (omega arith))
 
 pub steady_same : (w : World) → Steady w w
-steady_same w = record {
-  opened = λ d h. h;
-  size = λ d h. refl;
-  target = λ d e h. refl;
-  old = λ d e h. refl;
-  new = λ d e h. refl;
-  acts_before = λ d h. refl;
-  decided = λ d h. refl;
-  marks = λ x h. h;
-  mark_desc = λ x h. refl;
-  mark_entry = λ x h. refl;
-  stood = λ j x h e. e;
-  stays = λ j d e u. e;
-  workers = refl;
-  keys = refl;
-  counter = omega arith;
-  act_count = omega arith;
-  act = λ i h. refl;
-  logical = λ n j h. refl;
-  fresh = λ i a b. absurd (omega arith);
-  was_undecided = λ d h u. u;
-}
+steady_same w = steady_counter w w.counter (omega arith)
 
--- the counter grows
 pub steady_claim : (w : World) → Steady w (claim_world w)
-steady_claim w = record {
-  opened = λ d h. h;
-  size = λ d h. refl;
-  target = λ d e h. refl;
-  old = λ d e h. refl;
-  new = λ d e h. refl;
-  acts_before = λ d h. refl;
-  decided = λ d h. refl;
-  marks = λ x h. h;
-  mark_desc = λ x h. refl;
-  mark_entry = λ x h. refl;
-  stood = λ j x h e. e;
-  stays = λ j d e u. e;
-  workers = refl;
-  keys = refl;
-  counter = omega arith;
-  act_count = omega arith;
-  act = λ i h. refl;
-  logical = λ n j h. refl;
-  fresh = λ i a b. absurd (omega arith);
-  was_undecided = λ d h u. u;
-}
+steady_claim w = steady_counter w (claim_world w).counter (omega arith)
 
 pub later_cell : (w : World) (c : ℕ) (k : Cell) → ((x : Ref) → k ≢ mark x)
     → ((d : Ref) → w.cell c ≡ desc d → IsDecided (w.control d)) → ((d : Ref) → k ≡ desc d → w.control d ≢ succeeded)
