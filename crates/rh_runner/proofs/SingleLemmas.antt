@@ -1,22 +1,18 @@
 -- One worker's phase, key by key.
-use Rattle.std.proofs.Common.{◌≡◌, ℕ, ◌+◌, ◌-◌, ◌^◌, ◌<◌, ◌≤◌, ◌⊎◌, inl, inr, refl, sym, ap, ◌∙◌, arith, Bool, true, false, cond, List, [], ◌∷◌, length, take, get_or}
-use Rattle.std.specs.Prelude.{not}
+use Rattle.std.proofs.Common.{◌≡◌, ◌≢◌, ℕ, ◌+◌, ◌-◌, ◌^◌, ◌<◌, ◌≤◌, ◌⊎◌, inl, inr, refl, sym, ap, ◌∙◌, arith, Bool, true, false, cond, List, [], ◌∷◌, length, take, get_or}
 use Rattle.std.specs.Cmp.{nat_cmp_total}
 use Rattle.std.specs.FinSet as set
 use Rattle.std.specs.FinSet.{contains}
 use Rattle.std.proofs.lemmas.List.{length-take}
 use Rattle.rh_layout.specs.Layout.{Keys}
 use Rattle.rh_ledger.specs.declared.tally.Kind.{Kind}
-use Rattle.rh_ledger.specs.declared.tally.Kind.TheVariants.{Insert, Remove}
+use Rattle.rh_ledger.specs.declared.tally.Kind.TheVariants.{Insert, Remove, Ask}
 use Rattle.rh_ledger.specs.declared.tally.Tally.{Tally}
-use Rattle.rh_ledger.specs.Tally.{sum_of, none_yet, added_of, removed_of}
-use Rattle.rh_ledger.specs.Phase.{set_with, count_of, set_after, tally_of}
+use Rattle.rh_ledger.specs.Tally.{sum_of, tally_by}
+use Rattle.rh_ledger.specs.Phase.{set_with, count_of, most_added, set_after, tally_of}
 use Rattle.rh_ledger.proofs.PhaseLemmas.{set_after_more, tally_of_more, len-insert_all}
 
 -- ---- room
-
-pub room_to_insert : (bits i : ℕ) (S T : Keys) (keys : List ℕ) → i < length keys → set.len S + length keys < 2 ^ bits → T ≡ set_after Insert S (take i keys) → set.len T + 1 < 2 ^ bits
-room_to_insert bits i S T keys inside room is = rw is (omega (arith, len-insert_all S (take i keys), length-take i keys))
 
 len-remove-le : (S : Keys) (k : ℕ) → set.len (set.remove S k) ≤ set.len S
 len-remove-le S k =
@@ -31,8 +27,12 @@ pub len-remove_all : (S : Keys) (keys : List ℕ) → set.len (set_after Remove 
 len-remove_all S [] = omega arith
 len-remove_all S (k ∷ keys) = omega (arith, len-remove_all (set.remove S k) keys, len-remove-le S k)
 
-pub room_to_remove : (bits i : ℕ) (S T : Keys) (keys : List ℕ) → set.len S < 2 ^ bits → T ≡ set_after Remove S (take i keys) → set.len T < 2 ^ bits
-room_to_remove bits i S T keys room is = rw is (omega (arith, len-remove_all S (take i keys)))
+-- what is left of the room of a phase that inserts or removes serves the next key
+pub room_on : (kind : Kind) (bits i k : ℕ) (S T : Keys) (keys : List ℕ) → kind ≢ Ask → i < length keys → set.len S + most_added kind keys < 2 ^ bits
+    → T ≡ set_after kind S (take i keys) → set.len T + most_added kind (k ∷ []) < 2 ^ bits
+room_on Insert bits i k S T keys changes inside room is = rw is (omega (arith, len-insert_all S (take i keys), length-take i keys))
+room_on Remove bits i k S T keys changes inside room is = rw is (omega (arith, len-remove_all S (take i keys)))
+room_on Ask bits i k S T keys changes inside room is = absurd (changes refl)
 
 -- ---- the set and the tally after one more key
 
@@ -46,33 +46,16 @@ module _ (kind : Kind) (S T : Keys) (keys : List ℕ) (i : ℕ) (inside : i < le
       ∙ ap (λ r. sum_of r (count_of kind (set_after kind S (take i keys)) (get_or keys i 0))) p
       ∙ ap (sum_of t) (ap (λ (U : Keys). count_of kind U (get_or keys i 0)) (sym is) ∙ q)
 
-no_if : (r b : Bool) → r ≡ not b → r ≡ true → b ≡ false
-no_if r true e t = (cc)
-no_if r false e t = refl
-
-yes_if : (r b : Bool) → r ≡ not b → r ≡ false → b ≡ true
-yes_if r true e f = refl
-yes_if r false e f = (cc)
-
-module _ (S T : Keys) (keys : List ℕ) (i n : ℕ) (r : Bool) (inside : i < length keys) where
-  pub one_added : T ≡ set_after Insert S (take i keys) → tally_of Insert S (take i keys) ≡ added_of i n → r ≡ not (contains T (get_or keys i 0)) → r ≡ true → tally_of Insert S (take (i + 1) keys) ≡ added_of (i + 1) (n + 1)
-  one_added is so_far told it_did =
-      tally_goes_on Insert S T keys i inside is (added_of i n) (added_of 1 1) so_far (ap (λ b. record none_yet { read = 1; added = cond b 0 1 }) (no_if r (contains T (get_or keys i 0)) told it_did))
-
-  pub none_added : T ≡ set_after Insert S (take i keys) → tally_of Insert S (take i keys) ≡ added_of i n → r ≡ not (contains T (get_or keys i 0)) → r ≡ false → tally_of Insert S (take (i + 1) keys) ≡ added_of (i + 1) n
-  none_added is so_far told it_did_not =
-      let same : n + 0 ≡ n = omega arith in
-      tally_goes_on Insert S T keys i inside is (added_of i n) (added_of 1 0) so_far (ap (λ b. record none_yet { read = 1; added = cond b 0 1 }) (yes_if r (contains T (get_or keys i 0)) told it_did_not))
-      ∙ ap (added_of (i + 1)) same
-
-  pub one_removed : T ≡ set_after Remove S (take i keys) → tally_of Remove S (take i keys) ≡ removed_of i n → r ≡ contains T (get_or keys i 0) → r ≡ true → tally_of Remove S (take (i + 1) keys) ≡ removed_of (i + 1) (n + 1)
-  one_removed is so_far told it_did =
-      tally_goes_on Remove S T keys i inside is (removed_of i n) (removed_of 1 1) so_far (ap (λ b. record none_yet { read = 1; removed = cond b 1 0 }) (sym told ∙ it_did))
-
-  pub none_removed : T ≡ set_after Remove S (take i keys) → tally_of Remove S (take i keys) ≡ removed_of i n → r ≡ contains T (get_or keys i 0) → r ≡ false → tally_of Remove S (take (i + 1) keys) ≡ removed_of (i + 1) n
-  none_removed is so_far told it_did_not =
-      let same : n + 0 ≡ n = omega arith in
-      tally_goes_on Remove S T keys i inside is (removed_of i n) (removed_of 1 0) so_far (ap (λ b. record none_yet { read = 1; removed = cond b 1 0 }) (sym told ∙ it_did_not))
-      ∙ ap (removed_of (i + 1)) same
+  pub counted_on : (n m : ℕ) (r b : Bool) → tally_of kind S (take i keys) ≡ tally_by kind i n → count_of kind T (get_or keys i 0) ≡ tally_by kind 1 (cond r 1 0)
+      → r ≡ b → n + cond b 1 0 ≡ m → tally_of kind S (take (i + 1) keys) ≡ tally_by kind (i + 1) m
+  counted_on n m r b so_far counts told more =
+      tally_goes_on (tally_by kind i n) (tally_by kind 1 (cond r 1 0)) so_far counts
+      ∙ summed kind
+      ∙ ap (tally_by kind (i + 1)) (ap (λ (q : Bool). n + cond q 1 0) told ∙ more)
+    where
+      summed : (kind : Kind) → sum_of (tally_by kind i n) (tally_by kind 1 (cond r 1 0)) ≡ tally_by kind (i + 1) (n + cond r 1 0)
+      summed Insert = refl
+      summed Remove = refl
+      summed Ask = refl
 
 -- ---- the look-ups after one more key

@@ -1,17 +1,17 @@
 //! One worker.
 
-ghost use Rattle.std.specs.Prelude.{◌≡◌, ◌≢◌, ◌+◌, ◌^◌, ◌<◌, All, length};
+ghost use Rattle.std.specs.Prelude.{◌≡◌, ◌≢◌, ◌+◌, ◌^◌, ◌<◌, [], ◌∷◌, if◌then◌else◌, All};
 ghost use Rattle.std.specs.FinSet as set;
 ghost use Rattle.rh_layout.specs.Key.{IsKey};
 ghost use Rattle.rh_layout.specs.Layout.{IsLayout, keys_of};
-ghost use Rattle.rh_ledger.specs.declared.tally.Kind.TheVariants.{Insert, Remove};
-ghost use Rattle.rh_ledger.specs.Phase.{most_added, set_after, tally_of};
+ghost use Rattle.rh_ledger.specs.Phase.{count_of, most_added, set_after, set_with, tally_of};
+ghost use Rattle.rh_ledger.specs.Tally.{tally_by};
 ghost use Rattle.rh_runner.specs.Cells.{AreTheCells};
 
 use crate::lists::BATCH;
 use crate::runner::{PhaseFault, Runner};
 use rh_edit::{insert, remove};
-use rh_ledger::{Kind, Tally};
+use rh_ledger::{Kind, Tally, tally_by};
 use rh_probe::find;
 use std::alloc::Global;
 use std::sync::Wait;
@@ -70,55 +70,29 @@ fn change_cells(kind: Kind, bits: u32, cells: &mut [u64], keys: &[u64]) -> Tally
     ensures cells { AreTheCells bits (set_after kind (keys_of cells.old) keys.now) cells.new }
     ensures tally { result ≡ tally_of kind (keys_of cells.old) keys.now }
 {
+    let mut changed = 0;
+    for key in keys {
+        if change_cell(kind, bits, cells, *key) {
+            changed += 1;
+        }
+    }
+    tally_by(kind, keys.len() as u64, changed)
+}
+
+/// Inserts a key or removes it, and answers whether that changed the set.
+fn change_cell(kind: Kind, bits: u32, cells: &mut [u64], key: u64) -> bool
+    requires kind { kind ≢ Kind.Ask }
+    requires layout { IsLayout bits cells.old }
+    requires key { IsKey key }
+    requires room { set.len (keys_of cells.old) + most_added kind (key ∷ []) < 2 ^ bits }
+    ensures layout { IsLayout bits cells.new }
+    ensures keys { keys_of cells.new ≡ set_with kind (keys_of cells.old) key }
+    ensures counted { count_of kind (keys_of cells.old) key
+        ≡ tally_by kind 1 (if result then 1 else 0) }
+{
     match kind {
-        Kind::Insert => insert_all(bits, cells, keys),
-        Kind::Remove => remove_all(bits, cells, keys),
+        Kind::Insert => insert(bits, cells, key),
+        Kind::Remove => remove(bits, cells, key),
         Kind::Ask => unreachable!(),
-    }
-}
-
-fn insert_all(bits: u32, cells: &mut [u64], keys: &[u64]) -> Tally
-    requires layout { IsLayout bits cells.old }
-    requires keys { All IsKey keys.now }
-    requires room { set.len (keys_of cells.old) + length keys.now < 2 ^ bits }
-    ensures layout { IsLayout bits cells.new }
-    ensures keys { keys_of cells.new ≡ set_after Insert (keys_of cells.old) keys.now }
-    ensures cells { AreTheCells bits (set_after Insert (keys_of cells.old) keys.now) cells.new }
-    ensures tally { result ≡ tally_of Insert (keys_of cells.old) keys.now }
-{
-    let mut added = 0;
-    for key in keys {
-        if insert(bits, cells, *key) {
-            added += 1;
-        }
-    }
-    Tally {
-        read: keys.len() as u64,
-        added,
-        removed: 0,
-        found: 0,
-    }
-}
-
-fn remove_all(bits: u32, cells: &mut [u64], keys: &[u64]) -> Tally
-    requires layout { IsLayout bits cells.old }
-    requires keys { All IsKey keys.now }
-    requires room { set.len (keys_of cells.old) < 2 ^ bits }
-    ensures layout { IsLayout bits cells.new }
-    ensures keys { keys_of cells.new ≡ set_after Remove (keys_of cells.old) keys.now }
-    ensures cells { AreTheCells bits (set_after Remove (keys_of cells.old) keys.now) cells.new }
-    ensures tally { result ≡ tally_of Remove (keys_of cells.old) keys.now }
-{
-    let mut removed = 0;
-    for key in keys {
-        if remove(bits, cells, *key) {
-            removed += 1;
-        }
-    }
-    Tally {
-        read: keys.len() as u64,
-        added: 0,
-        removed,
-        found: 0,
     }
 }
