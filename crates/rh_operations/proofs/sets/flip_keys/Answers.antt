@@ -4,7 +4,7 @@ use Rattle.std.proofs.lemmas.Result.{err_from_is_err_and}
 use Rattle.std.specs.Prelude.{All}
 use Rattle.std.specs.FinSet as set
 use Rattle.rh_layout.specs.Key.{IsKey}
-use Rattle.rh_ledger.specs.Phase.{looked_up, set_after, tally_of}
+use Rattle.rh_ledger.specs.Phase.{set_after, tally_of}
 use Rattle.rh_ledger.specs.declared.tally.Kind.TheVariants.{Insert, Remove}
 use Rattle.rh_report.specs.declared.lines.Change.TheVariants.{Flipped}
 use Rattle.rh_runner.specs.declared.chosen.Chosen.TheVariants.{Absent}
@@ -12,7 +12,7 @@ use Rattle.rh_runner.specs.Lists.{chosen}
 use Rattle.rh_operations.specs.Actions.{Changed, flips, table}
 use Rattle.rh_operations.specs.Sets.{flipped}
 use Rattle.rh_operations.specs.Size.{size_for}
-use Rattle.rh_operations.proofs.Making.{sized}
+use Rattle.rh_operations.proofs.Making.{chosen_of, sized}
 use Rattle.rh_operations.proofs.Refusing.{not_made, phase_failed}
 use Rattle.rh_operations.proofs.sets.flip_keys.Goals as goal
 
@@ -31,9 +31,7 @@ returns-in_err-rest g c =
 pub with_keys-requires-after_bounds : goal.with_keys-requires-after_bounds
 with_keys-requires-after_bounds g c κs within =
     let S = c.args.set.now.keys in
-    let value = c.as_mut_slice-list.ensures.value in
-    let looked = c.deref.ensures.value ∙ c.in_ok-taken.ensures.found ∙ ap (looked_up S) (sym value) in
-    let chose = c.choose-many.ensures.moved S looked ∙ ap (chosen Absent S) value in
+    let chose = chosen_of Absent S c.as_mut_slice-list.ensures.value c.deref.ensures.value c.in_ok-taken.ensures.found c.choose-many.ensures.moved in
     subst (All IsKey) (sym chose) (All-filter _ IsKey c.in_ok-taken.taken.items c.in_ok-taken.ensures.took.in_range)
 
 pub returns-in_err-flipped : goal.returns-in_err-flipped
@@ -41,8 +39,7 @@ returns-in_err-flipped g c =
     let p = err_from_is_err_and c.from_residual-in_err-flipped.result c.from_residual-in_err-flipped.ensures.1 in
     let S = c.args.set.now.keys in
     let value = c.as_mut_slice-list.ensures.value in
-    let looked = c.deref.ensures.value ∙ c.in_ok-taken.ensures.found ∙ ap (looked_up S) (sym value) in
-    let chose = c.choose-many.ensures.moved S looked ∙ ap (chosen Absent S) value in
+    let chose = chosen_of Absent S c.as_mut_slice-list.ensures.value c.deref.ensures.value c.in_ok-taken.ensures.found c.choose-many.ensures.moved in
     let left = c.in_ok-rest.ensures.held ∙ ap (set_after Remove S) value in
     record {
       done = search rules;
@@ -58,8 +55,7 @@ returns g c =
     let S = c.args.set.now.keys in
     let keys = c.in_ok-taken.taken.items in
     let value = c.as_mut_slice-list.ensures.value in
-    let looked = c.deref.ensures.value ∙ c.in_ok-taken.ensures.found ∙ ap (looked_up S) (sym value) in
-    let chose = c.choose-many.ensures.moved S looked ∙ ap (chosen Absent S) value in
+    let chose = chosen_of Absent S c.as_mut_slice-list.ensures.value c.deref.ensures.value c.in_ok-taken.ensures.found c.choose-many.ensures.moved in
     let left = c.in_ok-rest.ensures.held ∙ ap (set_after Remove S) value in
     let size : size_for c.in_ok-rest.rest.bits _ ≡ size_for c.args.set.now.bits (set.len (set_after Remove S keys) + length (chosen Absent S keys)) = (λ i. size_for (c.in_ok-rest.ensures.size i) (set.len (left i) + length (chose i))) in
     let held : c.in_ok-flipped.flipped.keys ≡ flipped S keys = c.in_ok-flipped.ensures.held ∙ (λ i. set_after Insert (left i) (chose i)) in

@@ -4,7 +4,7 @@ use Rattle.std.proofs.lemmas.Result.{err_from_is_err_and}
 use Rattle.std.specs.Prelude.{All}
 use Rattle.std.specs.FinSet as set
 use Rattle.rh_layout.specs.Key.{IsKey}
-use Rattle.rh_ledger.specs.Phase.{looked_up, set_after}
+use Rattle.rh_ledger.specs.Phase.{set_after}
 use Rattle.rh_ledger.specs.declared.tally.Kind.TheVariants.{Insert}
 use Rattle.rh_report.specs.declared.lines.Change.TheVariants.{Kept}
 use Rattle.rh_runner.specs.declared.chosen.Chosen.TheVariants.{Present}
@@ -12,7 +12,7 @@ use Rattle.rh_runner.specs.Lists.{chosen}
 use Rattle.rh_operations.specs.Actions.{Changed, keeps, table}
 use Rattle.rh_operations.specs.Sets.{kept}
 use Rattle.rh_operations.specs.Size.{size_for}
-use Rattle.rh_operations.proofs.Making.{nothing_held, sized}
+use Rattle.rh_operations.proofs.Making.{chosen_of, nothing_held, sized}
 use Rattle.rh_operations.proofs.Refusing.{no_memory, not_made}
 use Rattle.rh_operations.proofs.sets.keep_keys.Goals as goal
 
@@ -31,18 +31,14 @@ returns-in_err-empty g c =
 pub with_keys-requires-after_bounds : goal.with_keys-requires-after_bounds
 with_keys-requires-after_bounds g c κs within =
     let S = c.args.set.now.keys in
-    let value = c.as_mut_slice-list.ensures.value in
-    let looked = c.deref.ensures.value ∙ c.in_ok-taken.ensures.found ∙ ap (looked_up S) (sym value) in
-    let chose = c.choose-many.ensures.moved S looked ∙ ap (chosen Present S) value in
+    let chose = chosen_of Present S c.as_mut_slice-list.ensures.value c.deref.ensures.value c.in_ok-taken.ensures.found c.choose-many.ensures.moved in
     subst (All IsKey) (sym chose) (All-filter _ IsKey c.in_ok-taken.taken.items c.in_ok-taken.ensures.took.in_range)
 
 pub returns-in_err-kept : goal.returns-in_err-kept
 returns-in_err-kept g c =
     let p = err_from_is_err_and c.from_residual-in_err-kept.result c.from_residual-in_err-kept.ensures.1 in
     let S = c.args.set.now.keys in
-    let value = c.as_mut_slice-list.ensures.value in
-    let looked = c.deref.ensures.value ∙ c.in_ok-taken.ensures.found ∙ ap (looked_up S) (sym value) in
-    let chose = c.choose-many.ensures.moved S looked ∙ ap (chosen Present S) value in
+    let chose = chosen_of Present S c.as_mut_slice-list.ensures.value c.deref.ensures.value c.in_ok-taken.ensures.found c.choose-many.ensures.moved in
     let many : set.len c.in_ok-empty.empty.keys + length (take c.choose-many.result c.choose-many.new.keys) ≡ length (chosen Present S c.in_ok-taken.taken.items) =
     omega (arith, nothing_held c.in_ok-empty.empty.keys c.in_ok-empty.ensures.keys, ap length chose) in
     record {
@@ -58,9 +54,7 @@ pub returns : goal.returns
 returns g c =
     let S = c.args.set.now.keys in
     let keys = c.in_ok-taken.taken.items in
-    let value = c.as_mut_slice-list.ensures.value in
-    let looked = c.deref.ensures.value ∙ c.in_ok-taken.ensures.found ∙ ap (looked_up S) (sym value) in
-    let chose = c.choose-many.ensures.moved S looked ∙ ap (chosen Present S) value in
+    let chose = chosen_of Present S c.as_mut_slice-list.ensures.value c.deref.ensures.value c.in_ok-taken.ensures.found c.choose-many.ensures.moved in
     let many : set.len c.in_ok-empty.empty.keys + length (take c.choose-many.result c.choose-many.new.keys) ≡ length (chosen Present S keys) =
     omega (arith, nothing_held c.in_ok-empty.empty.keys c.in_ok-empty.ensures.keys, ap length chose) in
     let found : c.choose-many.result ≡ length (chosen Present S keys) = sym (length-take-le _ _ c.choose-many.ensures.few) ∙ ap length chose in
