@@ -2,7 +2,7 @@
 use Rattle.std.specs.Prelude.{◌≡◌, ◌≢◌, ℕ, ◌<◌, ◌≤◌, Bool, false, ◌&&◌, ◌||◌, List, [], ◌∷◌, filter, length, slice_index, None}
 use Rattle.rh_world.specs.World.{Ref, Control, World, HasFailed, In, is_ref}
 use Rattle.rh_world.specs.Facts.{IsPrefix, Fact}
-use Rattle.rh_world.specs.Facts.Fact.{met, known, size_is, target_is, old_is, new_is, decided, over, stale, failed_at, desc_is, which_is, found, may_promote, may_demote, installed, mismatch}
+use Rattle.rh_world.specs.Facts.Fact.{decided, failed_at}
 use Rattle.rh_world.specs.Sides.{KeptRead, Side, AtRest}
 use Rattle.rh_world.specs.Acts.{cells_after, is_success, own_acts, successes_of}
 use Rattle.rh_world.specs.Laws.{Foretold, OneOrder, SharedOut}
@@ -65,23 +65,8 @@ pub record AllRest (z : Shape) (keep : ℕ → View) : Type 0 where
 
 -- whether a fact says that d succeeded
 abbrev pub says_success : Fact → Ref → Bool
-says_success (met f) d = false
-says_success (known f) d = false
-says_success (size_is f n) d = false
-says_success (target_is f e c) d = false
-says_success (old_is f e u) d = false
-says_success (new_is f e u) d = false
 says_success (decided f k) d = is_ref f d && is_success k
-says_success (over f) d = false
-says_success (stale f) d = false
-says_success (failed_at f e) d = false
-says_success (desc_is x f) d = false
-says_success (which_is x e) d = false
-says_success (found x c) d = false
-says_success (may_promote x c) d = false
-says_success (may_demote x) d = false
-says_success (installed f e) d = false
-says_success (mismatch f e n) d = false
+says_success _ d = false
 
 abbrev pub is_noted_success : List Fact → Ref → Bool
 is_noted_success [] d = false

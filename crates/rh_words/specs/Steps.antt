@@ -5,7 +5,7 @@ use Rattle.std.specs.Prelude.{zero, suc, ◌≡◌, ℕ, ◌+◌, ◌<◌, ◌�
 use Rattle.rh_world.specs.World.{Ref, Control, In, is_ref}
 use Rattle.rh_world.specs.World.Control.{unused, undecided, succeeded, withdrawn, failed}
 use Rattle.rh_world.specs.Facts.{Fact}
-use Rattle.rh_world.specs.Facts.Fact.{met, known, size_is, target_is, old_is, new_is, desc_is, which_is, decided, over, stale, failed_at, found, may_promote, may_demote, installed, mismatch}
+use Rattle.rh_world.specs.Facts.Fact.{met, known, size_is, target_is, old_is, new_is, desc_is, which_is, decided, over, stale, failed_at, found, may_promote, may_demote}
 use Rattle.rh_world.specs.Sides.{Side, is_number, note_side, open_side, paid_side, claim_side}
 use Rattle.rh_world.specs.Moves.{Entries, HasSeen, MayWork, MayDecide, note_entries, cell_noted, control_noted, mark_noted, place_noted, settle_noted, release_noted, note_all}
 use Rattle.rh_layout.specs.declared.entry.Entry.{Entry}
@@ -384,21 +384,8 @@ stale_noted s d = note_side (note_side s (over d)) (stale d)
 abbrev pub tells_opened : Fact → Ref → Bool
 tells_opened (met f) d = is_ref f d
 tells_opened (known f) d = is_ref f d
-tells_opened (size_is f n) d = false
-tells_opened (target_is f e c) d = false
-tells_opened (old_is f e u) d = false
-tells_opened (new_is f e u) d = false
 tells_opened (decided f k) d = is_ref f d
-tells_opened (over f) d = false
-tells_opened (stale f) d = false
-tells_opened (failed_at f e) d = false
-tells_opened (desc_is x f) d = false
-tells_opened (which_is x e) d = false
-tells_opened (found x c) d = false
-tells_opened (may_promote x c) d = false
-tells_opened (may_demote x) d = false
-tells_opened (installed f e) d = false
-tells_opened (mismatch f e n) d = false
+tells_opened _ d = false
 
 abbrev pub is_known : List Fact → Ref → Bool
 is_known [] d = false

@@ -1,22 +1,12 @@
 -- What is known owns nothing, so `start` gives it any value.
-use Rattle.atomic_table.proofs.Names.{◌≡◌, [], ◌∷◌, refl, a_type, dcons, dnil, named, Val, vptr, vstruct, vnil, inst_fn, SProp, emp, ent, ‵, raw, ◌⊛◌, ◌$◌, ◌∵◌, !, qed, by, keep, split, fjoin, use0, no_more, returns, enter, alloc_all, pass_all, free_all, look_at, sets, agg, tables, yes, RattleType, owns, types_at, plain, nothing, param, bounded, alive, Stays, stay_dropped, walk_of, Goes-dropped, fact, fact_i, RefOf, shr_vals, shr_Tells, makes_shadow, sem, Logic, Ura}
+use Rattle.atomic_table.proofs.Names.{◌≡◌, [], ◌∷◌, refl, a_type, dcons, dnil, named, Val, vptr, inst_fn, SProp, emp, ‵, raw, ◌⊛◌, ◌$◌, ◌∵◌, !, qed, by, keep, split, fjoin, use0, no_more, returns, enter, alloc_all, pass_all, free_all, look_at, sets, agg, tables, yes, RattleType, owns, types_at, plain, nothing, param, bounded, alive, Stays, stay_dropped, walk_of, Goes-dropped, fact, fact_i, RefOf, shr_vals, shr_Tells}
 use Rattle.atomic_table.proofs.Walks.{proved, leaves}
-use denote.Struct.Struct.{Struct}
-use denote.Struct.Owning.{shape}
 use Rattle.rh_words.specs.contracts.known.Known as known
 use Rattle.rh_words.specs.contracts.known.Known.start.{ended, clauses}
 use Rattle.rh_words.specs.contracts.known.Known.start.Key.{name as #self}
+use Rattle.rh_words.proofs.Token.{Data, made, token}
 use Rattle.rh_words.proofs.known.Known.start.Statement.{statement}
 use Rattle.rh_words.proofs.known.Known.start.Code as code
-
-abbrev token : Val
-token = vstruct vnil
-
-abbrev Data : RattleType
-Data = Struct (shape known.the_type)
-
-made : {M : Type 1} {𝓤 : Ura M} (𝓛 : Logic 𝓤) → ent 𝓤 (emp 𝓤) (sem 𝓛 (Data.own_val tt (token ∷ [])))
-made 𝓛 = makes_shadow 𝓛 (Data.own_val tt (token ∷ [])) (λ vss. (tt, tt)) (tt, (refl, tt))
 
 pub start_spec : {M : Type 1} → statement M
 start_spec 𝓤 𝓛 𝓜 𝓡 wired N B _ _ g d _ =
