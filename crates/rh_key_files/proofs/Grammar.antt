@@ -2,8 +2,6 @@
 use Rattle.std.proofs.Common.{◌≡◌, ℕ, ◌<◌, ◌≤◌, ◌^◌, true, List, [], ◌∷◌, ◌++◌, length, Ok, Err, inl, inr, refl, sym, ap, ◌∙◌, subst, arith, append-nil, length-append, ltb, leb}
 use Rattle.std.proofs.lemmas.Bool.{cases_Bool, and_parts, and_from, ltb-false, leb-true, le-leb, le-ltb}
 use Rattle.std.specs.Prelude.{All}
-use Rattle.std.specs.Str.{bytes_eq}
-use Rattle.std.proofs.lemmas.Slice.Eq.{bytes_eq-Decides}
 use Rattle.rh_layout.specs.declared.limits.TheConstants.{MAX_KEY, MAX_KEYS}
 use Rattle.rh_key_files.specs.declared.version.Version.{Version}
 use Rattle.rh_key_files.specs.declared.version.Version.TheVariants.{First, Second}
@@ -11,35 +9,16 @@ use Rattle.rh_key_files.specs.declared.fault.KeyFault.TheVariants.{NotKeys, Shor
 use Rattle.rh_key_files.specs.declared.header.Header.{Header}
 use Rattle.rh_bytes.specs.Input.{eight_bytes}
 use Rattle.rh_key_files.specs.KeyFile.{magic, least_key, IsKeyIn, spelled_keys, KeyFile, IsKeyFile, LongKeyFile, IsLongKeyFile}
-use Rattle.rh_bytes.specs.Input.{◌>>=◌, bytes_at, number_at, end_at}
-use Rattle.rh_key_files.specs.Reading.{named, version_at, few, count_at, with_count, after_version, header_at, is_key_in, in_range, key_at, keys_at, keys_ended, after_header, file_keys, keys_behind, long_file_keys}
+use Rattle.rh_bytes.specs.Input.{◌>>=◌, number_at, end_at}
+use Rattle.rh_key_files.specs.Reading.{version_at, few, count_at, with_count, after_version, header_at, is_key_in, in_range, key_at, keys_at, keys_ended, after_header, file_keys, keys_behind, long_file_keys}
 use Rattle.rh_bytes.proofs.Many.{Spells, many_given, many_read}
-use Rattle.rh_bytes.proofs.Parsed.{then_ok, same_value, same_rest, ok, bytes_read, number_read, end_read, bytes_given, number_given}
+use Rattle.rh_bytes.proofs.Parsed.{then_ok, if_ok, magic_read, same, same_value, same_rest, number_read, end_read, bytes_given, number_given}
 
 -- ---- what is read is spelled so
 
-named_magic : (four : List ℕ × List ℕ) (p : Version × List ℕ) → named four ≡ Ok p → four.0 ++ four.1 ≡ magic p.0 ++ p.1
-named_magic four p h =
-    elim (cases_Bool (bytes_eq four.0 (magic First))) [
-      | inl first ↦
-          let got : ok (First, four.1) ≡ Ok p = rw first at h in
-          let v : First ≡ p.0 = same_value (First, four.1) p got in
-          rw (← v, (bytes_eq-Decides four.0 (magic First)).0 first, same_rest (First, four.1) p got) refl
-      | inr other ↦
-          elim (cases_Bool (bytes_eq four.0 (magic Second))) [
-            | inl second ↦
-                let got : ok (Second, four.1) ≡ Ok p = rw (other, second) at h in
-                let v : Second ≡ p.0 = same_value (Second, four.1) p got in
-                rw (← v, (bytes_eq-Decides four.0 (magic Second)).0 second, same_rest (Second, four.1) p got) refl
-            | inr neither ↦ let got : Err NotKeys ≡ Ok p = rw (other, neither) at h in absurd cc
-          ]
-    ]
-
 pub version_read : (bytes : List ℕ) (p : Version × List ℕ) → version_at bytes ≡ Ok p → bytes ≡ magic p.0 ++ p.1
 unfolding version_at
-version_read bytes p h =
-    let s = then_ok (bytes_at Short 4 bytes) named p h in
-    (bytes_read Short 4 bytes s.0 s.1).whole ∙ named_magic s.0 p s.2
+version_read bytes p h = magic_read magic First Second NotKeys Short bytes p h
 
 count_read : (bytes : List ℕ) (p : ℕ × List ℕ) → count_at bytes ≡ Ok p → (bytes ≡ eight_bytes p.0 ++ p.1) × (p.0 ≤ MAX_KEYS)
 unfolding count_at
@@ -48,9 +27,8 @@ count_read bytes p h =
     elim (cases_Bool (ltb MAX_KEYS s.0.0)) [
       | inl more ↦ let got : Err TooMany ≡ Ok p = rw more at s.2 in absurd cc
       | inr other ↦
-          let got : ok s.0 ≡ Ok p = rw other at s.2 in
-          let n : s.0.0 ≡ p.0 = same_value s.0 p got in
-          (number_read Short bytes s.0 s.1 ∙ ap (λ m. eight_bytes m ++ s.0.1) n ∙ ap (λ l. eight_bytes p.0 ++ l) (same_rest s.0 p got), subst (λ m. m ≤ MAX_KEYS) n (ltb-false MAX_KEYS s.0.0 other))
+          let is = same s.0 p (rw other at s.2) in
+          (number_read Short bytes s.0 s.1 ∙ ap (λ (q : ℕ × List ℕ). eight_bytes q.0 ++ q.1) is, subst (λ (q : ℕ × List ℕ). q.0 ≤ MAX_KEYS) is (ltb-false MAX_KEYS s.0.0 other))
     ]
 
 pub header_read : (bytes : List ℕ) (p : Header × List ℕ) → header_at bytes ≡ Ok p → (bytes ≡ magic p.0.version ++ (eight_bytes p.0.count ++ p.1)) × (p.0.count ≤ MAX_KEYS)
@@ -68,14 +46,9 @@ key_read : (version : Version) (index : ℕ) (bytes : List ℕ) (p : ℕ × List
 unfolding key_at
 key_read version index bytes p h =
     let s = then_ok (number_at Short bytes) (in_range version index) p h in
-    elim (cases_Bool (is_key_in version s.0.0)) [
-      | inl fits ↦
-          let got : ok s.0 ≡ Ok p = rw fits at s.2 in
-          let k : s.0.0 ≡ p.0 = same_value s.0 p got in
-          let parts = and_parts (leb (least_key version) s.0.0) (leb s.0.0 MAX_KEY) fits in
-          (number_read Short bytes s.0 s.1 ∙ ap (λ m. eight_bytes m ++ s.0.1) k ∙ ap (λ l. eight_bytes p.0 ++ l) (same_rest s.0 p got), subst (IsKeyIn version) k (leb-true _ _ parts.0, leb-true _ _ parts.1))
-      | inr other ↦ let got : Err (BadKey index) ≡ Ok p = rw other at s.2 in absurd cc
-    ]
+    let t = if_ok (is_key_in version s.0.0) s.0 (BadKey index) p s.2 in
+    let parts = and_parts (leb (least_key version) s.0.0) (leb s.0.0 MAX_KEY) t.0 in
+    (number_read Short bytes s.0 s.1 ∙ ap (λ (q : ℕ × List ℕ). eight_bytes q.0 ++ q.1) t.1, subst (λ (q : ℕ × List ℕ). IsKeyIn version q.0) t.1 (leb-true _ _ parts.0, leb-true _ _ parts.1))
 
 pub keys_read : (version : Version) (index n : ℕ) (bytes : List ℕ) (p : List ℕ × List ℕ) → keys_at version index n bytes ≡ Ok p → Spells (IsKeyIn version) n bytes p
 keys_read version index n bytes p h = many_read (key_at version) (IsKeyIn version) (key_read version) index n bytes p h

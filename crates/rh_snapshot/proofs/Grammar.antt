@@ -1,10 +1,9 @@
 -- What is spelled as a snapshot is read to its table, and what is read is spelled so.
-use Rattle.std.proofs.Common.{◌≡◌, ℕ, ◌<◌, ◌≤◌, ◌^◌, true, List, [], ◌∷◌, ◌++◌, length, get_or, Ok, Err, inl, inr, refl, sym, ap, ◌∙◌, subst, arith, append_assoc, append-nil, leb}
-use Rattle.std.proofs.lemmas.Bool.{cases_Bool, and_parts, and_from, leb-true, le-leb, eq-eqb, lt-ltb}
+use Rattle.std.proofs.Common.{◌≡◌, ℕ, ◌<◌, ◌≤◌, ◌^◌, true, cond, List, [], ◌∷◌, ◌++◌, length, get_or, Ok, Err, refl, sym, ap, ◌∙◌, subst, arith, append_assoc, append-nil, leb}
+use Rattle.std.proofs.lemmas.Bool.{and_parts, and_from, leb-true, le-leb, eq-eqb, lt-ltb}
 use Rattle.std.proofs.lemmas.List.{get_or_default, length-map}
 use Rattle.std.proofs.lemmas.Slice.Eq.{bytes_eq-Decides}
 use Rattle.std.specs.Prelude.{All}
-use Rattle.std.specs.Str.{bytes_eq}
 use Rattle.std.proofs.Math.Nat.{pow-le-pow_right}
 use Rattle.std.specs.FinSet as set
 use Rattle.sha2.specs.Sha256.{sha256}
@@ -16,41 +15,22 @@ use Rattle.rh_layout.proofs.TestLemmas.{layout_decided}
 use Rattle.rh_bytes.specs.Input.{eight_bytes}
 use Rattle.rh_bytes.specs.Input.{is_byte, ◌>>=◌, bytes_at, number_at, end_at}
 use Rattle.rh_bytes.proofs.Many.{many_given, many_read}
-use Rattle.rh_bytes.proofs.Parsed.{then_ok, same, same_value, same_rest, ok, bytes_read, number_read, end_read, bytes_given, number_given}
+use Rattle.rh_bytes.proofs.Parsed.{then_ok, if_ok, if_then, magic_read, same_value, same_rest, ok, bytes_read, number_read, end_read, bytes_given, number_given}
 use Rattle.rh_snapshot.specs.declared.version.Version.{Version}
 use Rattle.rh_snapshot.specs.declared.version.Version.TheVariants.{First, Second}
 use Rattle.rh_snapshot.specs.declared.header.Header.{Header}
 use Rattle.rh_snapshot.specs.declared.fault.SnapFault.TheVariants.{NotSnapshot, Short, BadBits, Damaged, NotALayout, Long}
 use Rattle.rh_snapshot.specs.Snapshot.{snap_magic, most_bits, cells_as, snap_header_of, spelled_header, spelled_numbers, text_of, snap_spelling, SnapshotFile, Table, table_with, table_of, SnapshotOf, IsSnapshot}
-use Rattle.rh_snapshot.specs.Reading.{snap_named, snap_version_at, are_bits, bits_in, bits_at, with_snap_count, after_bits, after_snap_version, snap_header_at, numbers_at, is_sealed, is_table, table_in, snap_ended, after_numbers, after_snap_header, file_table, nth_number}
+use Rattle.rh_snapshot.specs.Reading.{snap_version_at, are_bits, bits_in, bits_at, with_snap_count, after_bits, after_snap_version, snap_header_at, numbers_at, is_sealed, is_table, table_in, snap_ended, after_numbers, after_snap_header, file_table, nth_number}
 use Rattle.rh_snapshot.proofs.Seal.{seal_bytes}
 use Rattle.rh_snapshot.proofs.Whole.{is_good}
 use Rattle.rh_snapshot.proofs.Keys.{numbers_fit, same_keys, tested}
 
 -- ---- what is read is spelled so
 
-named_magic : (four : List ℕ × List ℕ) (p : Version × List ℕ) → snap_named four ≡ Ok p → four.0 ++ four.1 ≡ snap_magic p.0 ++ p.1
-named_magic four p h =
-    elim (cases_Bool (bytes_eq four.0 (snap_magic First))) [
-      | inl first ↦
-          let got : ok (First, four.1) ≡ Ok p = rw first at h in
-          let v : First ≡ p.0 = same_value (First, four.1) p got in
-          rw (← v, (bytes_eq-Decides four.0 (snap_magic First)).0 first, same_rest (First, four.1) p got) refl
-      | inr other ↦
-          elim (cases_Bool (bytes_eq four.0 (snap_magic Second))) [
-            | inl second ↦
-                let got : ok (Second, four.1) ≡ Ok p = rw (other, second) at h in
-                let v : Second ≡ p.0 = same_value (Second, four.1) p got in
-                rw (← v, (bytes_eq-Decides four.0 (snap_magic Second)).0 second, same_rest (Second, four.1) p got) refl
-            | inr neither ↦ let got : Err NotSnapshot ≡ Ok p = rw (other, neither) at h in absurd cc
-          ]
-    ]
-
 version_read : (bytes : List ℕ) (p : Version × List ℕ) → snap_version_at bytes ≡ Ok p → bytes ≡ snap_magic p.0 ++ p.1
 unfolding snap_version_at
-version_read bytes p h =
-    let s = then_ok (bytes_at Short 4 bytes) snap_named p h in
-    (bytes_read Short 4 bytes s.0 s.1).whole ∙ named_magic s.0 p s.2
+version_read bytes p h = magic_read snap_magic First Second NotSnapshot Short bytes p h
 
 abbrev pub InRange : Version → ℕ → Type 0
 InRange version bits = (MIN_BITS ≤ bits) × (bits ≤ most_bits version)
@@ -66,14 +46,11 @@ bits_read version bytes p h =
     let s = then_ok (bytes_at Short 1 bytes) (bits_in version) p h in
     let g = bytes_read Short 1 bytes s.0 s.1 in
     let bits = get_or s.0.0 0 0 in
-    elim (cases_Bool (are_bits version bits)) [
-      | inl fits ↦
-          let got : ok (bits, s.0.1) ≡ Ok p = rw fits at s.2 in
-          let is : bits ≡ p.0 = same_value (bits, s.0.1) p got in
-          let parts = and_parts (leb MIN_BITS bits) (leb bits (most_bits version)) fits in
-          (g.whole ∙ ap (λ l. l ++ s.0.1) (one_byte s.0.0 g.many) ∙ ap (λ b. b ∷ s.0.1) is ∙ ap (λ l. p.0 ∷ l) (same_rest (bits, s.0.1) p got), subst (InRange version) is (leb-true _ _ parts.0, leb-true _ _ parts.1))
-      | inr other ↦ let got : Err BadBits ≡ Ok p = rw other at s.2 in absurd cc
-    ]
+    let t = if_ok (are_bits version bits) (bits, s.0.1) BadBits p s.2 in
+    let parts = and_parts (leb MIN_BITS bits) (leb bits (most_bits version)) t.0 in (
+      g.whole ∙ ap (λ l. l ++ s.0.1) (one_byte s.0.0 g.many) ∙ ap (λ (q : ℕ × List ℕ). q.0 ∷ q.1) t.1,
+      subst (λ (q : ℕ × List ℕ). InRange version q.0) t.1 (leb-true _ _ parts.0, leb-true _ _ parts.1),
+    )
 
 header_spelled : (version : Version) (bits count : ℕ) (rest : List ℕ) → snap_magic version ++ (bits ∷ (eight_bytes count ++ rest)) ≡ (snap_magic version ++ (bits ∷ eight_bytes count)) ++ rest
 header_spelled version bits count rest = sym (append_assoc (snap_magic version) (bits ∷ eight_bytes count) rest)
@@ -104,20 +81,9 @@ record Passed (header : Header) (numbers seal : List ℕ) (table : Table) : Type
 table_passed : (header : Header) (numbers seal : List ℕ) (table : Table) → table_in header numbers seal ≡ Ok table → Passed header numbers seal table
 unfolding table_in
 table_passed header numbers seal table h =
-    elim (cases_Bool (is_sealed header numbers seal)) [
-      | inl good ↦
-          elim (cases_Bool (is_table header numbers)) [
-            | inl test ↦
-                let got : ok (table_with header numbers seal) ≡ Ok table = rw (good, test) at h in
-                record {
-                  sealed_so = (bytes_eq-Decides (sha256 (text_of header numbers)) seal).0 good;
-                  test = test;
-                  is = same (table_with header numbers seal) table got;
-                }
-            | inr other ↦ let got : Err NotALayout ≡ Ok table = rw (good, other) at h in absurd cc
-          ]
-      | inr other ↦ let got : Err Damaged ≡ Ok table = rw other at h in absurd cc
-    ]
+    let seals = if_then (is_sealed header numbers seal) (cond (is_table header numbers) (ok (table_with header numbers seal)) (Err NotALayout)) Damaged table h in
+    let fits = if_ok (is_table header numbers) (table_with header numbers seal) NotALayout table seals.1 in
+    record { sealed_so = (bytes_eq-Decides (sha256 (text_of header numbers)) seal).0 seals.0; test = fits.0; is = fits.1 }
 
 with_seal : (header : Header) (numbers seal : List ℕ) → spelled_header header ++ (spelled_numbers numbers ++ seal) ≡ text_of header numbers ++ seal
 with_seal header numbers seal = sym (append_assoc (spelled_header header) (spelled_numbers numbers) seal)
