@@ -4,18 +4,11 @@ ghost use Rattle.std.specs.Prelude.{◌≡◌, ◌⊎◌};
 ghost use Rattle.rh_bytes.specs.Counting.{Rose};
 ghost use Rattle.rh_shelf.specs.Kinds.{failed_files};
 
+use crate::beside::create_beside;
 use crate::shelf::{Shelf, ShelfFault};
 use std::alloc::Global;
 use std::fs::{self, Files, OpenFile};
 use std::io::{self, BufReader, ErrorKind, Write};
-
-/// What is written beside a path, before it takes its place, has this at the end of its name, and a
-/// number.
-const BESIDE: &str = ".rhset-part-";
-
-/// How many names are tried for it. Each run that is cut may leave such a file, which no other one
-/// touches: it may be at work.
-const NAMES: u32 = 10_000;
 
 /// Real files: a path is one of the system's, from the current folder on. No contract tells what
 /// bytes stand there; the files that could not be opened or written are counted.
@@ -84,21 +77,6 @@ fn put_whole<F: Files>(alloc: Global, files: &F, path: &str, bytes: &[u8]) -> io
         let _ = fs::remove_file(files, &beside);
     }
     written
-}
-
-/// A new file beside the path, and its path. A file that is there already is left as it is.
-fn create_beside<F: Files>(alloc: Global, files: &F, path: &str) -> io::Result<(F::File, String)> {
-    for number in 0..NAMES {
-        let Ok(beside) = format!(in alloc; "{path}{BESIDE}{number}") else {
-            return Err(io::Error::from(ErrorKind::OutOfMemory));
-        };
-        match fs::File::create_new(files, &beside) {
-            Ok(file) => return Ok((file, beside)),
-            Err(error) if error.kind() == ErrorKind::AlreadyExists => {}
-            Err(error) => return Err(error),
-        }
-    }
-    Err(io::Error::from(ErrorKind::AlreadyExists))
 }
 
 /// The bytes are on the disk once this is done.

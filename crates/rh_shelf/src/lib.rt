@@ -1,7 +1,7 @@
 //! Where the files of a script stand: in memory (`MemShelf`), or real ones (`FileShelf`).
 //!
-//! `rh_operations`, `rh_set_program`, `rh_key_texts`, `rh_list_files` and `rh_keys_program` stand
-//! on it.
+//! `rh_operations`, `rh_set_program`, `rh_splitting`, `rh_key_texts`, `rh_list_files` and
+//! `rh_keys_program` stand on it.
 //!
 //! Proved:
 //!
@@ -13,11 +13,13 @@
 //!   Each `Shelf` may stand in its place (`Lender`), as one that counts none.
 #![tactic(auto)]
 
+mod beside;
 mod file;
 mod lender;
 mod memory;
 mod shelf;
 
+pub use beside::{BESIDE, create_beside};
 pub use file::FileShelf;
 pub use lender::{CountedShelf, Lender};
 pub use memory::MemShelf;

@@ -129,15 +129,9 @@ whole_read {Y = Y} contents source a b c count old new x r of kept h = by_answer
     by_answer : (r : Result Y FilesFault) → IfErr r IsOfWriting → SplitsList source a c count r
     by_answer (Ok y) of = list
     by_answer (Err (files.Write part)) of = inr list
-    by_answer (Err (files.Split fault)) of = absurd of
-    by_answer (Err (files.Create part)) of = absurd of
-    by_answer (Err (files.Left part)) of = absurd of
-    by_answer (Err files.Memory) of = absurd of
+    by_answer _ of = absurd of
 
 pub whole_taken : {Y : Type 0} (source : Source) (a b c : Option (List ℕ)) (r : Result Y FilesFault) → IfErr r IsOfWriting → Keeps a b → TakesOfSource {X = Unit {0}} source b c (Ok tt) → TakesOfSource source a c (told_of_list r)
 whole_taken source a b c (Ok y) of kept takes = takes_later source a b c (Ok tt) kept takes
 whole_taken source a b c (Err (files.Write part)) of kept takes = takes_later source a b c (Ok tt) kept takes
-whole_taken source a b c (Err (files.Split fault)) of kept takes = absurd of
-whole_taken source a b c (Err (files.Create part)) of kept takes = absurd of
-whole_taken source a b c (Err (files.Left part)) of kept takes = absurd of
-whole_taken source a b c (Err files.Memory) of kept takes = absurd of
+whole_taken source a b c _ of kept takes = absurd of

@@ -7,11 +7,8 @@ ghost use Rattle.rh_splitting.specs.declared.fault.FilesFault.TheVariants as fil
 use rh_key_files::KeyFault;
 use rh_layout::MAX_KEYS;
 use rh_numbers::TextFault;
+use rh_shelf::BESIDE;
 use thiserror::Error;
-
-/// What is written beside a place, before it takes that, has this at the end of its name, and a
-/// number.
-pub(crate) const BESIDE: &str = ".rhset-part-";
 
 /// Why a list was not split, or not all of it. Parts are numbered from 0.
 #[derive(Clone, Copy, Debug, PartialEq, Eq, Error)]

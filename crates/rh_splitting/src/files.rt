@@ -3,38 +3,21 @@
 ghost use Rattle.std.specs.Prelude.{◌≤◌, IfErr, length};
 ghost use Rattle.rh_splitting.specs.IntoFiles.{IsOfFiles};
 
-use crate::fault::{BESIDE, FilesFault, SplitFault};
+use crate::fault::{FilesFault, SplitFault};
 use crate::part::Part;
 use crate::source::{Source, split_source, try_source};
 use rh_bytes::Counted;
 use rh_key_files::{KeyFault, write_header};
+use rh_shelf::create_beside;
 use std::alloc::Global;
 use std::fs::{self, Files, OpenFile};
 use std::io::{self, BufWriter, ErrorKind, Read, Seek, SeekFrom, Write};
-
-/// How many names are tried beside a place. Each run that is cut may leave a file there, which no
-/// other one touches: it may be at work.
-const NAMES: u32 = 10_000;
 
 /// Where the key file of a part is written, and where it stands in the end.
 #[derive(Drop)]
 struct PartFile {
     beside: String,
     place: String,
-}
-
-impl PartFile {
-    fn new(alloc: Global, part: u64, name: &str, number: u32) -> Result<PartFile, FilesFault>
-        ensures fault { IfErr result IsOfFiles }
-    {
-        let Ok(place) = format!(in alloc; "{part:03}/{name}.keys") else {
-            return Err(FilesFault::Memory);
-        };
-        let Ok(beside) = format!(in alloc; "{place}{BESIDE}{number}") else {
-            return Err(FilesFault::Memory);
-        };
-        Ok(PartFile { beside, place })
-    }
 }
 
 /// The key files of a list that is split: part 7 of the list NAME takes the place `007/NAME.keys`.
@@ -222,15 +205,13 @@ impl<F: Files> PartFiles<'_, F> {
         let Ok(()) = self.made.reserve(1) else {
             return Err(FilesFault::Memory);
         };
-        for number in 0..NAMES {
-            let named = PartFile::new(alloc, part, name, number)?;
-            match fs::File::create_new(self.files, &named.beside) {
-                Ok(file) => return self.note(named, file),
-                Err(error) if error.kind() == ErrorKind::AlreadyExists => {}
-                Err(_) => return Err(FilesFault::Create { part }),
-            }
+        let Ok(place) = format!(in alloc; "{part:03}/{name}.keys") else {
+            return Err(FilesFault::Memory);
+        };
+        match create_beside(alloc, self.files, &place) {
+            Ok((file, beside)) => self.note(PartFile { beside, place }, file),
+            Err(error) => Err(creation_fault(&error, part)),
         }
-        Err(FilesFault::Left { part })
     }
 
     /// Notes that the file was made, and gives it back.
@@ -297,6 +278,17 @@ fn make_folder<F: Files>(alloc: Global, files: &F, part: u64) -> Result<(), File
     match fs::create_dir_all(files, &folder) {
         Ok(()) => Ok(()),
         Err(_) => Err(FilesFault::Create { part }),
+    }
+}
+
+/// Why the file of a part could not be created beside its place.
+fn creation_fault(error: &io::Error, part: u64) -> FilesFault
+    ensures { IsOfFiles result }
+{
+    match error.kind() {
+        ErrorKind::OutOfMemory => FilesFault::Memory,
+        ErrorKind::AlreadyExists => FilesFault::Left { part },
+        _ => FilesFault::Create { part },
     }
 }
 

@@ -6,7 +6,7 @@ ghost use Rattle.rh_key_files.specs.KeyFile.{KeyFile, header, spelled_keys};
 ghost use Rattle.rh_layout.specs.declared.limits.TheConstants.{MAX_KEYS};
 ghost use Rattle.rh_key_files.specs.declared.version.Version.TheVariants.{Second};
 ghost use Rattle.rh_parts.specs.Parts.{in_part};
-ghost use Rattle.rh_splitting.specs.declared.files.TheConstants.{NAMES};
+ghost use Rattle.rh_shelf.specs.declared.beside.TheConstants.{NAMES};
 ghost use Rattle.rh_splitting.specs.declared.name.TheConstants.{MAX_NAME_BYTES};
 ghost use Rattle.rh_splitting.specs.declared.number.TheConstants.{BYTES_A_KEY, BYTES_A_LINE, KEYS_A_PART};
 
