@@ -7,7 +7,7 @@ use Rattle.rh_numbers.specs.declared.fault.TextFault.{TextFault}
 use Rattle.rh_numbers.specs.declared.fault.TextFault.TheVariants as faults
 use Rattle.rh_numbers.specs.declared.fault.TextFault.TheVariants.{NotAKey, OutOfRange, TooLong, TooMany}
 use Rattle.rh_numbers.specs.declared.line_so_far.LineSoFar.{LineSoFar}
-use Rattle.rh_numbers.specs.declared.line_so_far.LineSoFar.TheVariants.{Start, Blank, Comment, Number, After, Return, Other}
+use Rattle.rh_numbers.specs.declared.line_so_far.LineSoFar.TheVariants.{Start, Number, After, Return}
 use Rattle.rh_numbers.specs.Reading.{◌>>=◌, Said, Stops, limited, next, said_from, with_key, with_line}
 
 -- these keys are said first
@@ -26,14 +26,10 @@ key_behind front keys at n =
     ]
 
 pub line_behind : (front keys : List ℕ) (at : ℕ) (so_far : LineSoFar) → with_line (front ++ keys) at so_far ≡ behind front (with_line keys at so_far)
-line_behind front keys at Start = refl
-line_behind front keys at Blank = refl
-line_behind front keys at Comment = refl
 line_behind front keys at (Number n) = key_behind front keys at n
 line_behind front keys at (After n) = key_behind front keys at n
-line_behind front keys at (Return None) = refl
 line_behind front keys at (Return (Some n)) = key_behind front keys at n
-line_behind front keys at Other = refl
+line_behind front keys at _ = refl
 
 then_behind : (front : List ℕ) (said : Said) (f : List ℕ → Said) → ((keys : List ℕ) → f (front ++ keys) ≡ behind front (f keys)) → (behind front said >>= f) ≡ behind front (said >>= f)
 then_behind front (keys, None) f h = h keys

@@ -63,12 +63,10 @@ stops_if_known (Some rest) part before after line so_far e stops = stops rest
 -- a fault that was found in the bytes of a part
 pub part_stops : (part : List ℕ) (left : Option (List ℕ)) (old new : Reading) (e : TextFault) (keys : List ℕ) (said : Said) → Stops e keys said
     → MatchOption left (Unit {0}) (λ rest. Stops e (keys_read new) (said_by old (part ++ rest))) → PartGives part left old new (Err e)
-part_stops part left old new faults.Memory keys said found known = absurd found
-part_stops part left old new faults.Read keys said found known = absurd found
-part_stops part left old new TooLong keys said found known = absurd found
 part_stops part left old new TooMany keys said found known = known
 part_stops part left old new (NotAKey line) keys said found known = known
 part_stops part left old new (OutOfRange line) keys said found known = known
+part_stops part left old new _ keys said found known = absurd found
 
 -- where memory was refused nothing was taken
 pub nothing_taken : {X : Type 0} (part : List ℕ) (left : Option (List ℕ)) (old new : Reading) (e : TextFault) → IsErrOf {T = X} (Err e) faults.Memory → PartGives part left old new (Err e) → (part ≡ []) × LeadsOn part old new
@@ -155,11 +153,8 @@ is_no_limit e keys said r is h long =
 -- A fault in the bytes may stand before a failed read.
 no_silence : (e : TextFault) (keys : List ℕ) (said : Said) → Stops e keys said → NoReadFailed (Some e) → ⊥
 no_silence faults.Memory keys said h fine = h
-no_silence faults.Read keys said h fine = fine
 no_silence TooLong keys said h fine = h
-no_silence TooMany keys said h fine = fine
-no_silence (NotAKey line) keys said h fine = fine
-no_silence (OutOfRange line) keys said h fine = fine
+no_silence _ keys said h fine = fine
 
 pub before_failure : {X : Type 0} (e : TextFault) (keys : List ℕ) (said : Said) (r : Result X TextFault) → r ≡ Err e → Stops e keys said → NoReadFailed (fault_of r) → ⊥
 before_failure e keys said r is h fine = no_silence e keys said h (subst (λ r. NoReadFailed (fault_of r)) is fine)

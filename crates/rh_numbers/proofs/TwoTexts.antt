@@ -4,7 +4,7 @@ use Rattle.std.specs.Prelude.{nat_eq, nat_lt}
 use Rattle.std.proofs.lemmas.Bool.{cases_Bool}
 use Rattle.rh_layout.specs.declared.limits.TheConstants.{MAX_KEY}
 use Rattle.rh_numbers.specs.declared.line_so_far.LineSoFar.{LineSoFar}
-use Rattle.rh_numbers.specs.declared.line_so_far.LineSoFar.TheVariants.{Start, Blank, Comment, Number, After, Return, Other}
+use Rattle.rh_numbers.specs.declared.line_so_far.LineSoFar.TheVariants.{Start, Number, After, Return}
 use Rattle.rh_numbers.specs.Chunks.{feeds, moved, then_said}
 use Rattle.rh_numbers.specs.Reading.{◌>>=◌, Said, next, said_from, text_said, with_key, with_line}
 use Rattle.rh_numbers.proofs.Fronts.{behind, said_behind}
@@ -53,14 +53,10 @@ key_moved d keys line n =
     ]
 
 line_moved : (d : ℕ) (keys : List ℕ) (line : ℕ) (so_far : LineSoFar) → with_line keys (line + d) so_far ≡ moved d (with_line keys line so_far)
-line_moved d keys line Start = refl
-line_moved d keys line Blank = refl
-line_moved d keys line Comment = refl
 line_moved d keys line (Number n) = key_moved d keys line n
 line_moved d keys line (After n) = key_moved d keys line n
-line_moved d keys line (Return None) = refl
 line_moved d keys line (Return (Some n)) = key_moved d keys line n
-line_moved d keys line Other = refl
+line_moved d keys line _ = refl
 
 then_moved : (d : ℕ) (said : Said) (f g : List ℕ → Said) → ((keys : List ℕ) → f keys ≡ moved d (g keys)) → (moved d said >>= f) ≡ moved d (said >>= g)
 then_moved d (keys, None) f g h = h keys
