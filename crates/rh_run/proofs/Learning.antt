@@ -74,14 +74,9 @@ entries_reads s d p (suc n) = entries_reads s d p n
 
 -- a step that opens and closes nothing
 abbrev pub KeepsCurrent : Step → Type 0
-KeepsCurrent (Step.writes p u) = Unit {0}
 KeepsCurrent (Step.opens size) = ⊥
-KeepsCurrent (Step.reads r) = Unit {0}
-KeepsCurrent (Step.places d e c old) = Unit {0}
-KeepsCurrent (Step.settles x c d e old) = Unit {0}
-KeepsCurrent (Step.decides d k) = Unit {0}
 KeepsCurrent (Step.releases d e c k value) = ⊥
-KeepsCurrent Step.claims = Unit {0}
+KeepsCurrent _ = Unit {0}
 
 pub steps_grow : (z : Shape) (v : View) (s : Step) (word : ℕ) → KeepsCurrent s → Grows v.side (noted z v s word).side
 steps_grow z v (Step.writes p u) word h = grows.same v.side

@@ -45,11 +45,9 @@ decided_leaves w d withdrawn k ne = refl
 decided_leaves w d (failed e by) k ne = refl
 
 no_success : (e : ℕ) (k : Control) → (k ≡ succeeded → ⊥) → with_entry e k ≡ succeeded → ⊥
-no_success e unused ne is = ne is
-no_success e undecided ne is = ne is
 no_success e succeeded ne is = ne refl
-no_success e withdrawn ne is = ne is
 no_success e (failed f by) ne is = absurd cc
+no_success e _ ne is = ne is
 
 module _ (w : World) (z : Shape) (words : List ℕ) (keep : ℕ → View) (who : ℕ) (core : Core w z words keep) (mine : who < z.workers) where
   decide_leaves : (d : Ref) (k : Control) (word : ℕ) → word ≡ word_at z words (part.Control d.worker) → CanDecide z (keep who) d k → (IsSuccess (Step.decides d k) word → ⊥)
@@ -62,14 +60,11 @@ module _ (w : World) (z : Shape) (words : List ℕ) (keep : ℕ → View) (who :
       either false e = ap left (decided_before w d (w.control d) (decided_so z (keep who) d k) (closed z words keep w core.side core.rule core.represents who mine d k can e))
 
   step_leaves : (s : Step) (word : ℕ) → word ≡ slice_index words (index z (keep who) s) → IsStep z (keep who) s → (IsSuccess s word → ⊥) → left (world_then z w who (keep who) s) ≡ left w
-  step_leaves (Step.writes p u) word found may none = refl
-  step_leaves (Step.opens size) word found may none = refl
-  step_leaves (Step.reads r) word found may none = refl
   step_leaves (Step.places d e c old) word found may none = swap_leaves w (place_world w (next_mark w who) d e) (is_plain (w.cell (w.target d e)) (w.old d e)) refl
   step_leaves (Step.settles x c d e old) word found may none = swap_leaves w (cell_world w c (settled_cell w x (is_none old))) (is_mark (w.cell c) x) refl
   step_leaves (Step.decides d k) word found may none = decide_leaves d k word found may none
   step_leaves (Step.releases d e c k value) word found may none = swap_leaves w (cell_world w (w.target d e) (released_cell w d e)) (is_desc (w.cell (w.target d e)) d) refl
-  step_leaves Step.claims word found may none = refl
+  step_leaves _ word found may none = refl
 
 pub only_success_changes : OnlySuccessChanges
 only_success_changes w z words then keep who s word next core mine may to none c was is inside before after =

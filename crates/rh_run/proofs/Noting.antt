@@ -50,9 +50,7 @@ module _ (R : Side → Side → Type 0) (is : Follows R) where
   a_mark : (s : Side) (x : Ref) (c : ℕ) (k : Control) → R s (mark_noted s x c k)
   a_mark s x c unused = is.same s
   a_mark s x c undecided = is.note s (may_promote x c)
-  a_mark s x c succeeded = is.note s (may_demote x)
-  a_mark s x c withdrawn = is.note s (may_demote x)
-  a_mark s x c (failed e by) = is.note s (may_demote x)
+  a_mark s x c _ = is.note s (may_demote x)
 
   gone : (s : Side) (d : Ref) → R s (stale_noted s d)
   gone s d = two_notes s (over d) (stale d)
@@ -73,17 +71,11 @@ module _ (R : Side → Side → Type 0) (is : Follows R) where
       (all_notes v.side (rows_said v.raw_rows d)) (gone v.side d)
 
   pub a_reading : (v : View) (r : Reading) (word : ℕ) → R v.side (read_noted v r word)
-  a_reading v (reading.Word p) word = is.same v.side
   a_reading v (reading.Cell c) word = a_cell v.side c (cell_in word) v.side.current 0 v.next_number
   a_reading v (reading.Control d) word = a_control_word v.side (ref_of d) word
   a_reading v (reading.MarkControl x c d) word = a_mark_word v.side (ref_of x) c (ref_of d) word
   a_reading v (reading.Serial d) word = a_serial v (ref_of d) word
-  a_reading v (reading.Length d) word = is.same v.side
-  a_reading v (reading.EntryCell d e) word = is.same v.side
-  a_reading v (reading.EntryOld d e) word = is.same v.side
-  a_reading v (reading.EntryNew d e) word = is.same v.side
   a_reading v (reading.MarkSerial x) word = either (R v.side) (eqb word x.number) (note_all v.side (row_said v.raw (ref_of x))) v.side
       (all_notes v.side (row_said v.raw (ref_of x))) (is.same v.side)
-  a_reading v (reading.MarkDesc x) word = is.same v.side
-  a_reading v (reading.MarkEntry x) word = is.same v.side
   a_reading v (reading.Reason d by) word = is.note v.side (failed_at (ref_of d) word)
+  a_reading v _ word = is.same v.side

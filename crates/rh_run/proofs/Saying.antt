@@ -3,7 +3,7 @@ use Rattle.std.proofs.Common.{List, ◌≡◌, ◌≢◌, ℕ, zero, suc, ◌<�
 use Rattle.std.proofs.lemmas.Bool.{cases_lt, eqb-true, or_cases, or_left, or_right}
 use Rattle.rh_world.specs.World.{Cell, Control, In, IsOpened, Ref, World}
 use Rattle.rh_world.specs.World.Cell.{desc, mark, plain}
-use Rattle.rh_world.specs.World.Control.{failed, succeeded, undecided, unused, withdrawn}
+use Rattle.rh_world.specs.World.Control.{succeeded, unused}
 use Rattle.rh_world.specs.Facts.{Fact}
 use Rattle.rh_world.specs.Facts.Fact.{decided, desc_is, found, old_is, target_is}
 use Rattle.rh_world.specs.Rows.{ByDebt, ByPlacer}
@@ -32,17 +32,11 @@ use Rattle.rh_run.specs.Words.{StaleStandsFor, HoldsCell, IsLogicalWord, LeadsIn
 
 counts_new : (k : Control) (old new : ℕ) → cond (is_success k) new old ≡ entry_value k old new
 counts_new unused old new = refl
-counts_new undecided old new = refl
-counts_new succeeded old new = refl
-counts_new withdrawn old new = refl
-counts_new (failed e by) old new = refl
+counts_new _ old new = refl
 
 counts_old : (k : Control) (old new : ℕ) → k ≢ succeeded → entry_value k old new ≡ old
-counts_old unused old new ne = refl
-counts_old undecided old new ne = refl
 counts_old succeeded old new ne = absurd (ne refl)
-counts_old withdrawn old new ne = refl
-counts_old (failed e by) old new ne = refl
+counts_old _ old new ne = refl
 
 module _ (w : World) (z : Shape) (words : List ℕ) (keep : ℕ → View) (core : Core w z words keep) where
   abbrev side : ℕ → Side

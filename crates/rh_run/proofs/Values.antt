@@ -1,5 +1,6 @@
 -- What an act of the world makes of the values of the cells.
-use Rattle.std.proofs.Common.{◌≡◌, ℕ, zero, suc, ◌+◌, ◌<◌, ◌≤◌, inl, inr, refl, sym, ap, ◌∙◌, arith, List, [], ◌∷◌, ◌++◌, length, get_or, set, map, take, cond, eqb, length-set, get_or-set_same, get_or-set_other, eq-eqb, ne_eqb}
+use Rattle.std.proofs.Common.{◌≡◌, ℕ, zero, suc, ◌+◌, ◌<◌, ◌≤◌, inl, inr, ⊎_elim, refl, sym, ap, ◌∙◌, arith, List, [], ◌∷◌, ◌++◌, length, get_or, set, map, take, cond, eqb, length-set, get_or-set_same, get_or-set_other, eq-eqb, ne_eqb}
+use Rattle.std.specs.Prelude.{slice_index}
 use Rattle.std.specs.List.{Contains, range_with_len}
 use Rattle.std.proofs.lemmas.Bool.{cases_eq}
 use Rattle.std.proofs.lemmas.List.{length-map, map-append, take-map, get_or-map}
@@ -9,6 +10,10 @@ use Rattle.rh_world.specs.Logical.{changed_by}
 use Rattle.rh_world.specs.Acts.{cells_after}
 use Rattle.rh_words.specs.declared.shape.Shape.{Shape}
 use Rattle.rh_words.specs.Parts.{cell_count}
+use Rattle.rh_tagword.specs.Word.{IsValue}
+use Rattle.rh_layout.specs.Key.{cell_of, key_in}
+use Rattle.rh_layout.specs.Layout.{IsLayout}
+use Rattle.rh_layout.specs.declared.limits.TheConstants.{MAX_KEY}
 use Rattle.rh_layout.specs.declared.entry.Entry.{Entry}
 use Rattle.rh_acts.specs.Act.{Act, apply_act, apply_acts}
 use Rattle.rh_acts.specs.Workers.{Made, acts_of}
@@ -27,6 +32,19 @@ contains_upto f n x h =
     (h.0, l, sym h.2 ∙ get_or-map-range_with_len f 0 n h.0 h.0 x l (omega arith))
 
 -- ---- cells
+
+-- a cell of a layout holds a value
+pub is_value : (bits : ℕ) (cells : List ℕ) (c : ℕ) → IsLayout bits cells → c < length cells → IsValue (slice_index cells c)
+is_value bits cells c layout inside = ⊎_elim
+    (λ (none : slice_index cells c ≡ 0). omega (arith, none))
+    (λ some.
+    let key : ℕ = key_in (slice_index cells c) in
+    let is : slice_index cells c ≡ cell_of key = full (slice_index cells c) some in
+    let small : key ≤ MAX_KEY = layout.keys key (layout.no_other c key (inside, is)) in
+    omega (arith, is, small)) (cases_eq (slice_index cells c) 0)
+  where
+    full : (v : ℕ) → (v ≡ 0 → ⊥) → v ≡ cell_of (key_in v)
+    full v some = omega (arith, some)
 
 pub cells_length : (z : Shape) (f : ℕ → ℕ) → length (cells_of z f) ≡ cell_count z
 cells_length z f = length-map-range_with_len (λ c. value_of (f c)) 0 (cell_count z)

@@ -151,14 +151,8 @@ WordsLeadInside = (w : World) (z : Shape) (words : List ℕ) (keep : ℕ → Vie
 
 -- The step finds a descriptor undecided, and decides that it succeeded.
 abbrev pub IsSuccess : Step → (word : ℕ) → Type 0
-IsSuccess (Step.writes p u) word = ⊥
-IsSuccess (Step.opens size) word = ⊥
-IsSuccess (Step.reads r) word = ⊥
-IsSuccess (Step.places d e c old) word = ⊥
-IsSuccess (Step.settles x c d e old) word = ⊥
 IsSuccess (Step.decides d k) word = (word ≡ control_word_of d.number undecided) × (k ≡ succeeded)
-IsSuccess (Step.releases d e c k value) word = ⊥
-IsSuccess Step.claims word = ⊥
+IsSuccess _ word = ⊥
 
 -- No other step changes what a cell stands for. So a stale helper changes no cell, whatever it still does for a descriptor that
 -- is decided or that is stale: its control word is another one.

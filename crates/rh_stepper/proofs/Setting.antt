@@ -1,13 +1,12 @@
 -- A player that is set up.
 use Rattle.std.proofs.Common.{◌≡◌, ℕ, ◌+◌, ◌-◌, ◌<◌, ◌≤◌, inl, inr, ⊎_elim, refl, sym, ap, ◌∙◌, subst, arith, Option, Some, None, Bool, false, List, [], ◌∷◌, ◌++◌, length, map, replicate, take, get_or}
-use Rattle.std.specs.Prelude.{slice_index, All}
-use Rattle.std.proofs.lemmas.Bool.{cases_eq, cases_lt}
+use Rattle.std.specs.Prelude.{All}
+use Rattle.std.proofs.lemmas.Bool.{cases_lt}
 use Rattle.std.proofs.lemmas.List.{get_or_append_left, get_or_at, get_or-map, length-append, length-map, length-take, map-append, take_all, take_more}
-use Rattle.rh_layout.specs.Key.{IsKey, cell_of, key_in}
+use Rattle.rh_layout.specs.Key.{IsKey}
 use Rattle.rh_layout.specs.Layout.{IsLayout, keys_of}
-use Rattle.rh_layout.specs.declared.limits.TheConstants.{MAX_KEY}
 use Rattle.rh_ledger.specs.declared.tally.Kind.{Kind}
-use Rattle.rh_tagword.specs.Word.{IsValue, plain_number}
+use Rattle.rh_tagword.specs.Word.{plain_number}
 use Rattle.rh_words.specs.declared.shape.Shape.{Shape}
 use Rattle.rh_words.specs.Parts.{cell_count, word_count}
 use Rattle.rh_words.specs.View.{new_view}
@@ -20,19 +19,6 @@ use Rattle.rh_turns.specs.Hands.{IsNew}
 use Rattle.rh_turns.specs.Game.{ArePieces, Game, shares_of}
 use Rattle.rh_turns.specs.Laws.{GameStarts, WillClaim}
 use Rattle.rh_stepper.specs.SetUp.{AreNew, AreShares, ClaimsAll}
-
--- a cell of a layout holds a value
-pub is_value : (bits : ℕ) (cells : List ℕ) (c : ℕ) → IsLayout bits cells → c < length cells → IsValue (slice_index cells c)
-is_value bits cells c layout inside = ⊎_elim
-    (λ (none : slice_index cells c ≡ 0). omega (arith, none))
-    (λ some.
-    let key : ℕ = key_in (slice_index cells c) in
-    let is : slice_index cells c ≡ cell_of key = full (slice_index cells c) some in
-    let small : key ≤ MAX_KEY = layout.keys key (layout.no_other c key (inside, is)) in
-    omega (arith, is, small)) (cases_eq (slice_index cells c) 0)
-  where
-    full : (v : ℕ) → (v ≡ 0 → ⊥) → v ≡ cell_of (key_in v)
-    full v some = omega (arith, some)
 
 -- one worker more
 module _ (kind : Kind) (z : Shape) (words : List ℕ) (shares : List Share) (hands : List Hand) (n : ℕ) (h : Hand) (inside : n < length shares)

@@ -1,7 +1,8 @@
 use Rattle.std.proofs.Common.{◌∙◌, ℕ, None, ap, refl, replicate}
 use Rattle.rh_turns.specs.Laws.{GameStarts}
 use Rattle.rh_turns.proofs.Started.{plays_start}
-use Rattle.rh_stepper.proofs.Setting.{is_value, none_alone, starts}
+use Rattle.rh_run.proofs.Values.{is_value}
+use Rattle.rh_stepper.proofs.Setting.{none_alone, starts}
 use Rattle.rh_stepper.proofs.set_up.set_up.Goals as goal
 
 made : (c : goal.In_ok-answers) → GameStarts (record {
