@@ -21,7 +21,7 @@ use crate::columns::{column_sides, column_widths, flag_changes, right_side};
 use crate::frame::{draw_all_heads, draw_frame, longest, picture_size};
 use crate::history::{draw_notices, longest_notice};
 use crate::places::lane_x;
-use crate::records::{Record, Window, steps_drawn};
+use crate::records::{Record, Recording, Window, steps_drawn};
 use crate::rows::{draw_rounds, draw_rows};
 use crate::sight::View;
 use crate::spans::{Span, list_spans, most_letters};
@@ -30,24 +30,25 @@ use rh_svg::{Tag, close, open};
 use rh_words::Shape;
 use std::alloc::{AllocError, Global};
 
-/// The picture of the steps of a window, as the text of an SVG, with a title of these lines. The
-/// cells are the words of a table's cells before the first record. Where they are known, the keys
-/// are those that the steps do, in the order of their numbers.
+/// The picture of the steps of a window, as the text of an SVG, with a title of these lines.
 pub fn draw(
     alloc: Global,
     title: &[Vec<u8>],
-    shape: &Shape,
-    cells: &[u64],
-    records: &[Record],
-    keys: &[Option<u64>],
+    recording: &Recording<'_>,
     window: Window,
 ) -> Result<Vec<u8>, AllocError>
-    requires cells { length cells.now ≡ cell_count shape.now }
+    requires cells { length recording.now.cells.now ≡ cell_count recording.now.shape.now }
     requires steps { window.steps ≤ MAX_STEPS }
-    ensures drawn { IfOk result
-        (λ text. IsPicture title.now shape.now cells.now records.now window text.items) }
+    ensures drawn { IfOk result (λ text. IsPicture title.now recording.now.shape.now
+        recording.now.cells.now recording.now.records.now window text.items) }
     ensures well_formed { IfOk result (λ text. IsWellFormed text.items) }
 {
+    let Recording {
+        shape,
+        cells,
+        records,
+        keys,
+    } = *recording;
     let (view, spans) = lay_out(alloc, shape, cells, records, window)?;
     let letters = longest_notice(alloc, &view, cells, records, keys)?;
     let size = picture_size(&view, letters, longest(title));

@@ -52,4 +52,4 @@ mod words;
 pub use drawing::draw;
 pub use laws::fixed_numbers;
 pub use limits::MAX_STEPS;
-pub use records::{Record, Window, steps_from};
+pub use records::{Record, Recording, Window, steps_from};

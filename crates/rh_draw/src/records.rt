@@ -5,6 +5,7 @@ ghost use Rattle.rh_draw.specs.Places.{moment_of};
 ghost use Rattle.rh_draw.specs.Records.{count_from, is_before, is_drawn};
 
 use rh_trace::Traced;
+use rh_words::Shape;
 
 /// What happened in a play.
 #[derive(Clone, Copy)]
@@ -13,6 +14,17 @@ pub enum Record {
     /// A further round began, before the step of this number. What it changes in the rows, the
     /// steps that follow write anew.
     Round { next: u64 },
+}
+
+/// What a picture is drawn from.
+#[derive(Clone, Copy)]
+pub struct Recording<'a> {
+    pub shape: &'a Shape,
+    /// The words of the table's cells before the first record.
+    pub cells: &'a [u64],
+    pub records: &'a [Record],
+    /// Where they are known, the keys that the steps do, in the order of their numbers.
+    pub keys: &'a [Option<u64>],
 }
 
 /// Which steps are drawn: so many, from this number on.

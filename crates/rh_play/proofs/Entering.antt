@@ -46,73 +46,40 @@ out_of_range way said out = rw out refl
 pub not_first : (line : Line) → ((kind : Kind) → line ≡ lines.Play kind → ⊥) → follow AtStart (saying_as line) ≡ None
 unfolding follow
 not_first (lines.Play k) not_play = absurd (not_play k refl)
-not_first (lines.Bits b) not_play = refl
-not_first (lines.Held v) not_play = refl
-not_first (lines.Rooms e m) not_play = refl
-not_first (lines.Work v) not_play = refl
-not_first (lines.Share w v) not_play = refl
-not_first (lines.Schedule o) not_play = refl
+not_first _ not_play = refl
 
 pub not_sized : (line : Line) → ((bits : ℕ) → line ≡ lines.Bits bits → ⊥) → follow AfterPlay (saying_as line) ≡ None
 unfolding follow
-not_sized (lines.Play k) not_bits = refl
 not_sized (lines.Bits b) not_bits = absurd (not_bits b refl)
-not_sized (lines.Held v) not_bits = refl
-not_sized (lines.Rooms e m) not_bits = refl
-not_sized (lines.Work v) not_bits = refl
-not_sized (lines.Share w v) not_bits = refl
-not_sized (lines.Schedule o) not_bits = refl
+not_sized _ not_bits = refl
 
 pub not_filled : (line : Line) → ((keys : Vec ℕ Global) → line ≡ lines.Held keys → ⊥) → follow AfterBits (saying_as line) ≡ None
 unfolding follow
-not_filled (lines.Play k) not_held = refl
-not_filled (lines.Bits b) not_held = refl
 not_filled (lines.Held v) not_held = absurd (not_held v refl)
-not_filled (lines.Rooms e m) not_held = refl
-not_filled (lines.Work v) not_held = refl
-not_filled (lines.Share w v) not_held = refl
-not_filled (lines.Schedule o) not_held = refl
+not_filled _ not_held = refl
 
 pub not_begun : (line : Line) → ((keys : Vec ℕ Global) → line ≡ lines.Work keys → ⊥) → ((workers : ℕ) (keys : Vec ℕ Global) → line ≡ lines.Share workers keys → ⊥) → follow AfterRooms (saying_as line) ≡ None
 unfolding follow
-not_begun (lines.Play k) not_work not_share = refl
-not_begun (lines.Bits b) not_work not_share = refl
-not_begun (lines.Held v) not_work not_share = refl
-not_begun (lines.Rooms e m) not_work not_share = refl
 not_begun (lines.Work v) not_work not_share = absurd (not_work v refl)
 not_begun (lines.Share w v) not_work not_share = absurd (not_share w v refl)
-not_begun (lines.Schedule o) not_work not_share = refl
+not_begun _ not_work not_share = refl
 
 pub not_worked : (line : Line) → ((keys : Vec ℕ Global) → line ≡ lines.Work keys → ⊥) → ((order : Order) → line ≡ lines.Schedule order → ⊥) → follow AmongWork (saying_as line) ≡ None
 unfolding follow
-not_worked (lines.Play k) not_work not_schedule = refl
-not_worked (lines.Bits b) not_work not_schedule = refl
-not_worked (lines.Held v) not_work not_schedule = refl
-not_worked (lines.Rooms e m) not_work not_schedule = refl
 not_worked (lines.Work v) not_work not_schedule = absurd (not_work v refl)
-not_worked (lines.Share w v) not_work not_schedule = refl
 not_worked (lines.Schedule o) not_work not_schedule = absurd (not_schedule o refl)
+not_worked _ not_work not_schedule = refl
 
 pub not_scheduled : (line : Line) → ((order : Order) → line ≡ lines.Schedule order → ⊥) → follow AmongSchedule (saying_as line) ≡ None
 unfolding follow
-not_scheduled (lines.Play k) not_schedule = refl
-not_scheduled (lines.Bits b) not_schedule = refl
-not_scheduled (lines.Held v) not_schedule = refl
-not_scheduled (lines.Rooms e m) not_schedule = refl
-not_scheduled (lines.Work v) not_schedule = refl
-not_scheduled (lines.Share w v) not_schedule = refl
 not_scheduled (lines.Schedule o) not_schedule = absurd (not_schedule o refl)
+not_scheduled _ not_schedule = refl
 
 -- without rooms the line is read as after them
 pub no_rooms : (line : Line) → ((descriptors marks : ℕ) → line ≡ lines.Rooms descriptors marks → ⊥) → follow AfterHeld (saying_as line) ≡ follow AfterRooms (saying_as line)
 unfolding follow
-no_rooms (lines.Play k) not_rooms = refl
-no_rooms (lines.Bits b) not_rooms = refl
-no_rooms (lines.Held v) not_rooms = refl
 no_rooms (lines.Rooms e m) not_rooms = absurd (not_rooms e m refl)
-no_rooms (lines.Work v) not_rooms = refl
-no_rooms (lines.Share w v) not_rooms = refl
-no_rooms (lines.Schedule o) not_rooms = refl
+no_rooms _ not_rooms = refl
 
 pub entered_alike : (stage other : Stage) (said : List Saying) (line : Saying) → follow stage line ≡ follow other line → entered (stage, said) line ≡ entered (other, said) line
 unfolding entered
@@ -123,22 +90,12 @@ entered_alike stage other said line same = rw same refl
 pub bits_fit : (line : Line) (bits : ℕ) → IsTrue (fits (saying_as line)) → line ≡ lines.Bits bits → (MIN_BITS ≤ bits) × (bits ≤ MAX_BITS)
 unfolding fits
 bits_fit (lines.Bits b) bits fit is = grind (arith, nat_tests)
-bits_fit (lines.Play k) bits fit is = absurd cc
-bits_fit (lines.Held v) bits fit is = absurd cc
-bits_fit (lines.Rooms e m) bits fit is = absurd cc
-bits_fit (lines.Work v) bits fit is = absurd cc
-bits_fit (lines.Share w v) bits fit is = absurd cc
-bits_fit (lines.Schedule o) bits fit is = absurd cc
+bits_fit _ bits fit is = absurd cc
 
 pub rooms_fit : (line : Line) (descriptors marks : ℕ) → IsTrue (fits (saying_as line)) → line ≡ lines.Rooms descriptors marks → (1 ≤ descriptors) × (descriptors ≤ MAX_ROOM) × (1 ≤ marks) × (marks ≤ MAX_ROOM)
 unfolding fits
 rooms_fit (lines.Rooms e m) descriptors marks fit is = grind (arith, nat_tests)
-rooms_fit (lines.Play k) descriptors marks fit is = absurd cc
-rooms_fit (lines.Bits b) descriptors marks fit is = absurd cc
-rooms_fit (lines.Held v) descriptors marks fit is = absurd cc
-rooms_fit (lines.Work v) descriptors marks fit is = absurd cc
-rooms_fit (lines.Share w v) descriptors marks fit is = absurd cc
-rooms_fit (lines.Schedule o) descriptors marks fit is = absurd cc
+rooms_fit _ descriptors marks fit is = absurd cc
 
 -- ---- what was said, and a line more
 

@@ -37,9 +37,7 @@ turn_keeps : (g : Game) (who : ℕ) (made : Turn) (next : Game) → Turned g who
 turn_keeps g who (Did k) next h =
     subst (Keeps g) (sym h.next_is)
     (record { kind = refl; shape = refl; opening = refl; keys = refl; workers = length-set g.hands who h.stepped })
-turn_keeps g who Finished next h = stays g next h.0
-turn_keeps g who Spent next h = stays g next h.0
-turn_keeps g who NoSuchWorker next h = stays g next h.0
+turn_keeps g who _ next h = stays g next h.0
 
 round_keeps : (g : Game) (began : Bool) (next : Game) → Rounds g began next → Keeps g next
 round_keeps g true next h =

@@ -65,11 +65,7 @@ pub played : (telling : Telling) (play : Play) (first last : Game) (pieces : Lis
 played telling play first last pieces body cells close begins follows short is made layout closes closed =
     let end = last_game play first last pieces begins follows in
     record {
-      first = first;
-      last = last;
-      begins = begins;
-      pieces = pieces;
-      follows = follows;
+      run = record { first = first; last = last; begins = begins; pieces = pieces; follows = follows };
       short = short;
       ending = dump_text (bits_of play) cells ++ close;
       ends = record { cells = cells; so_far = made; close = close; closes = closes; text_is = refl };
@@ -104,11 +100,9 @@ closed_finished g empty first text tally whole finished counts tells none one tw
 -- ---- what comes of a run
 
 pub unrun : (bytes : Option (List ℕ)) (play : Play) (fault : PlayRunFault) → IsPlayRead bytes play → IsUnplayed play fault → IsUnrun bytes fault
-unrun bytes play Read read why = absurd why
-unrun bytes play (Text fault) read why = absurd why
 unrun bytes play (Start fault) read why = (play, read, why)
 unrun bytes play Memory read why = tt
-unrun bytes play Write read why = absurd why
+unrun bytes play _ read why = absurd why
 
 pub not_run : (X : Type 0) (telling : Telling) (bytes old new : Option (List ℕ)) (fault : PlayRunFault) → IsUnrun bytes fault → RunsPlay {X = X} telling bytes old new (Err fault)
 not_run X telling bytes old new Read why = tt

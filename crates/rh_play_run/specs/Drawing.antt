@@ -16,18 +16,13 @@ use Rattle.rh_play_run.specs.declared.draw_fault.DrawFault.{DrawFault}
 use Rattle.rh_play_run.specs.declared.draw_fault.DrawFault.TheVariants as draw
 use Rattle.rh_play_run.specs.declared.fault.PlayRunFault.TheVariants as plays
 use Rattle.rh_play_run.specs.declared.log.Telling.TheVariants.{Records}
-use Rattle.rh_play_run.specs.Beginning.{BeginsPlay}
-use Rattle.rh_play_run.specs.Pieces.{Piece, recorded}
-use Rattle.rh_play_run.specs.Run.{IsLong, IsPlayRead, IsUnrun}
-use Rattle.rh_play_run.specs.Schedule.{CarriesOutAll}
+use Rattle.rh_play_run.specs.Pieces.{recorded}
+use Rattle.rh_play_run.specs.Run.{IsCarriedOut, IsLong, IsPlayRead, IsUnrun}
 
 -- The play was carried out: the table, the words of its cells at first, and what happened.
 pub record IsRecorded (play : Play) (z : Shape) (cells : List ℕ) (records : List Record) : Type 0 where
-  pub first : Game
-  pub last : Game
-  pub begins : BeginsPlay play first
-  pub pieces : List Piece
-  pub follows : CarriesOutAll play.schedule.items first pieces last
+  pub run : IsCarriedOut play
+  pub open run use *
   pub shape_is : z ≡ first.shape
   pub long : length cells ≡ cell_count z
   pub cells_are : cells ≡ take (cell_count z) first.words

@@ -63,13 +63,18 @@ pub record EndsAsOne (play : Play) (text : List ℕ) : Type 0 where
 
 -- ---- the whole text
 
--- The schedule is followed from the beginning on, and told so; and then the end is told.
-pub record IsPlayed (telling : Telling) (play : Play) (text : List ℕ) : Type 0 where
+-- The schedule is followed from the beginning on.
+pub record IsCarriedOut (play : Play) : Type 0 where
   pub first : Game
   pub last : Game
   pub begins : BeginsPlay play first
   pub pieces : List Piece
   pub follows : CarriesOutAll play.schedule.items first pieces last
+
+-- It is carried out and told so; and then the end is told.
+pub record IsPlayed (telling : Telling) (play : Play) (text : List ℕ) : Type 0 where
+  pub run : IsCarriedOut play
+  pub open run use *
   pub short : IsTold telling (steps_after 0 pieces)
   pub ending : List ℕ
   pub ends : EndsSoFar (bits_of play) last ending
@@ -78,11 +83,8 @@ pub record IsPlayed (telling : Telling) (play : Play) (text : List ℕ) : Type 0
 
 -- The play makes more steps than are told of any.
 pub record IsLong (play : Play) : Type 0 where
-  pub first : Game
-  pub last : Game
-  pub begins : BeginsPlay play first
-  pub pieces : List Piece
-  pub follows : CarriesOutAll play.schedule.items first pieces last
+  pub run : IsCarriedOut play
+  pub open run use *
   pub long : MAX_TOLD < steps_after 0 pieces
 
 -- what a play prints

@@ -23,7 +23,7 @@ use crate::run::workers_of;
 use crate::schedule::follow;
 use crate::title::title_of;
 use rh_bytes::{Counted, write_texts};
-use rh_draw::{MAX_STEPS, Record, Window, draw, steps_from};
+use rh_draw::{MAX_STEPS, Record, Recording, Window, draw, steps_from};
 use rh_play::Play;
 use rh_words::Shape;
 use std::alloc::Global;
@@ -100,7 +100,13 @@ fn drawn<R: Read>(
     }
     let window = window(&records, from, steps)?;
     let title = title_of(alloc, &play)?;
-    Ok(draw(alloc, &title, &shape, &cells, &records, &keys, window)?)
+    let recording = Recording {
+        shape: &shape,
+        cells: &cells,
+        records: &records,
+        keys: &keys,
+    };
+    Ok(draw(alloc, &title, &recording, window)?)
 }
 
 /// Runs a play, whose table is made of blank cells, for its records.

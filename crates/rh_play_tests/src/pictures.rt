@@ -71,10 +71,29 @@ fn helped(end: u64) -> [Record; 12] {
     ]
 }
 
+/// The picture of these records, at a table with no key at first.
+fn drawn(
+    alloc: Global,
+    title: &[Vec<u8>],
+    records: &[Record],
+    keys: &[Option<u64>],
+    window: Window,
+) -> Result<Vec<u8>, AllocError>
+    requires { window.steps ≤ MAX_STEPS }
+{
+    let recording = Recording {
+        shape: &SHAPE,
+        cells: &[0; 8],
+        records,
+        keys,
+    };
+    draw(alloc, title, &recording, window)
+}
+
 fn picture(alloc: Global, end: u64, window: Window) -> Result<Vec<u8>, AllocError>
     requires { window.steps ≤ MAX_STEPS }
 {
-    draw(alloc, &[], &SHAPE, &[0; 8], &helped(end), &[], window)
+    drawn(alloc, &[], &helped(end), &[], window)
 }
 
 /// How often the text has this piece.
@@ -168,7 +187,7 @@ fn steps_at_cells_are_about_the_descriptor_that_their_worker_is_at(
         step(11, 1, StepKind::Release, cell, (40, 40)),
     ];
     let window = Window { from: 1, steps: 20 };
-    let text = draw(rt.alloc(), &[], &SHAPE, &[0; 8], &records, &[], window)?;
+    let text = drawn(rt.alloc(), &[], &records, &[], window)?;
     // from lane 1 to lane 0, at steps 3 to 8, and that of the legend
     assert_eq!(rt; occurrences(&text, "class=\"help w0\"></line>"), 7);
     for piece in [
@@ -244,7 +263,7 @@ fn heads_and_words_stand_again(rt: HostRuntime) -> Result<(), Fail> {
         records.push(step(number, 1, StepKind::Read, Part::Cell(4), (1, 1)))?;
     }
     let window = Window { from: 1, steps: 41 };
-    let text = draw(rt.alloc(), &[], &SHAPE, &[0; 8], &records, &[], window)?;
+    let text = drawn(rt.alloc(), &[], &records, &[], window)?;
     for piece in [
         "<text x=\"274\" y=\"230\" class=\"head\">cell 4</text>",
         "<text x=\"274\" y=\"1482\" class=\"head\">cell 4</text>",
@@ -263,7 +282,7 @@ fn a_column_is_as_wide_as_the_longest_key(rt: HostRuntime) -> Result<(), Fail> {
     // the greatest key: 19 digits, and `key ` before them
     let greatest = 4_611_686_018_427_387_903 << 2;
     let records = [step(1, 0, StepKind::Release, Part::Cell(4), (2, greatest))];
-    let text = draw(rt.alloc(), &[], &SHAPE, &[0; 8], &records, &[], ALL)?;
+    let text = drawn(rt.alloc(), &[], &records, &[], ALL)?;
     let column = "<rect x=\"242\" y=\"270\" width=\"169\" height=\"30\" class=\"key\"></rect>";
     assert_eq!(rt; occurrences(&text, column), 1);
     assert_eq!(rt; occurrences(&text, ">key 4611686018427387902</text>"), 1);
@@ -276,7 +295,7 @@ fn a_title_stands_above_and_beside_the_legend(rt: HostRuntime) -> Result<(), Fai
     for line in [b"first <", b"second!", b"third 3"] {
         title.push(Vec::from_slice(rt.alloc(), line)?)?;
     }
-    let text = draw(rt.alloc(), &title, &SHAPE, &[0; 8], &[], &[], ALL)?;
+    let text = drawn(rt.alloc(), &title, &[], &[], ALL)?;
     for piece in [
         "<text x=\"12\" y=\"18\" class=\"title\">first &lt;</text>",
         "<text x=\"606\" y=\"18\" class=\"title\">second!</text>",
@@ -297,7 +316,7 @@ fn settled_after(alloc: Global, control: u64) -> Result<Vec<u8>, AllocError> {
         step(3, 0, StepKind::Decide, owner, (1, control)),
         step(4, 1, StepKind::Settle, cell, (5, 2)),
     ];
-    draw(alloc, &[], &SHAPE, &[0; 8], &records, &[], ALL)
+    drawn(alloc, &[], &records, &[], ALL)
 }
 
 #[test]
@@ -336,7 +355,7 @@ fn an_entry_that_changes_no_value_is_left_out(rt: HostRuntime) -> Result<(), Fai
         step(4, 0, StepKind::Write, other_new, (0, 40)),
         step(5, 0, StepKind::Decide, control, (1, 2)),
     ];
-    let text = draw(rt.alloc(), &[], &SHAPE, &[0; 8], &records, &[], ALL)?;
+    let text = drawn(rt.alloc(), &[], &records, &[], ALL)?;
     assert_eq!(rt;
         occurrences(&text, ">desc 0 0 succeeded; cell 4: empty -&gt; key 9<"),
         1
@@ -367,7 +386,7 @@ fn an_act_that_changes_nothing_says_so(rt: HostRuntime) -> Result<(), Fail> {
         ),
     ] {
         let keys = [None, None, key];
-        let text = draw(rt.alloc(), &[], &SHAPE, &[0; 8], &records, &keys, ALL)?;
+        let text = drawn(rt.alloc(), &[], &records, &keys, ALL)?;
         assert_eq!(rt; occurrences(&text, says), 1);
     }
     Ok(())
@@ -375,7 +394,7 @@ fn an_act_that_changes_nothing_says_so(rt: HostRuntime) -> Result<(), Fail> {
 
 #[test]
 fn a_play_with_no_step_is_drawn(rt: HostRuntime) -> Result<(), Fail> {
-    let text = draw(rt.alloc(), &[], &SHAPE, &[0; 8], &[], &[], ALL)?;
+    let text = drawn(rt.alloc(), &[], &[], &[], ALL)?;
     assert!(rt; text.starts_with(b"<svg xmlns=\"http://www.w3.org/2000/svg\" width=\"612\" "));
     assert!(rt; text.ends_with(b"</svg>"));
     assert_eq!(rt; occurrences(&text, "<title>"), 0);

@@ -37,7 +37,7 @@ returns-in_err-window-clause-refused g c =
 pub returns-clause-drawn : goal.returns-clause-drawn
 returns-clause-drawn g c =
     drawn _ c.args.from c.args.steps c.in_ok-play.play c.in_ok-play.ensures.read _ _ _ _ (c.in_ok-recorded.ensures.recorded (omega (arith, c.if-made-gt-MAX_TOLD.false))) c.deref.ensures.value
-    _ _ c.in_ok-window.window _ _ c.deref-3.ensures.value c.deref-4.ensures.value c.in_ok-window.ensures.window c.in_ok-draw.ensures.drawn
+    _ _ c.in_ok-window.window _ _ c.deref-2.ensures.value c.deref-3.ensures.value c.in_ok-window.ensures.window c.in_ok-draw.ensures.drawn
 
 pub returns-then-made-gt-MAX_TOLD-clause-refused : goal.returns-then-made-gt-MAX_TOLD-clause-refused
 returns-then-made-gt-MAX_TOLD-clause-refused g c = (c.in_ok-play.play, c.in_ok-play.ensures.read, c.in_ok-recorded.ensures.long (omega (arith, c.if-made-gt-MAX_TOLD.true)))

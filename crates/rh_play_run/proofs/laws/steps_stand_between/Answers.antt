@@ -7,11 +7,7 @@ returns c play text is = (
   is.ending,
   is.text_is,
   record {
-    first = is.first;
-    last = is.last;
-    begins = is.begins;
-    pieces = is.pieces;
-    follows = is.follows;
+    run = is.run;
     short = tt;
     ending = is.ending;
     ends = is.ends;

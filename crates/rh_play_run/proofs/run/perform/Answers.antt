@@ -39,7 +39,7 @@ returns-clause-plays c =
       short = λ within.
           played c.args.telling c.args.play.now _ _ pieces _ _ _ c.in_ok-player.ensures.begins follows (subst (IsTold c.args.telling) counted within) (body_is within)
           c.in_ok-cells.ensures.so_far c.in_ok-cells.ensures.finished c.in_ok-closing.ensures.closes c.in_ok-closing.ensures.finished;
-      long = λ many. record { first = _; last = _; begins = c.in_ok-player.ensures.begins; pieces = pieces; follows = follows; long = subst (λ (n : ℕ). MAX_TOLD < n) counted many };
+      long = λ many. record { run = record { first = _; last = _; begins = c.in_ok-player.ensures.begins; pieces = pieces; follows = follows }; long = subst (λ (n : ℕ). MAX_TOLD < n) counted many };
     }
 
 pub returns-clause-layout : goal.returns-clause-layout
