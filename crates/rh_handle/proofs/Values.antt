@@ -1,12 +1,15 @@
--- The machine values of a `Loose` and of a `Handle`. Assumes `Logic`.
+-- The machine values of a `Loose` and of a `Handle`, and what each owns. Assumes `Logic`.
+--     loose_out, loose_in      a `Loose` by value is [its box in memory, with the right to free it; its allocator]
+--     handle_out, handle_in    a `Handle` by value is [what its pointer holds]
+--     loose_good, handle_good  their values have their types
+--     by_holds                 the two cases of what a pointer holds: none at null, and else a set, and then it may be tested
 use Rattle.std.proofs.Common.{◌≡◌, ℕ, List, [], ◌∷◌, ◌++◌, refl, subst}
-use mathlib.Core.Bool.{Bool, true, false, ◌&&◌}
-use lib.Dec.{T}
+use mathlib.Core.Bool.{true, ◌&&◌}
+use lib.Dec.{T, lit<}
 use seplogic.Ra.Ura.{Ura}
-use mir.Syntax.{impl, tnil, dnil}
+use mir.Syntax.{impl, tnil, dnil, ty_ptr}
 use mir.Raw.{raw as bare}
 use mir.Val.{Val, vptr, vstruct, vcons, vnil, of_list, has_ty, WT}
-use mir.Syntax.{ty_ptr}
 use base.Logic.{ent, guard, never, fst∗, snd∗, via, guard_i}
 use types.Logic.{Logic, sem}
 use types.Kit.{Item, Goal, Seq, Step, step, ‵, given, ◌$◌, use1, learn, move, drop, fsplit, fjoin, fpick, fpack, feq_i, feq_l}
@@ -16,7 +19,6 @@ use denote.Memory.{lone}
 use denote.RawPtr.{Ptr, block_ptr, null_ptr, ptr_val, in_a_block, lies_at, Testable}
 use base.Fraction.{full_share}
 use contract.Monad.{fact_use}
-use lib.Dec.{lit<}
 use denote.Steps.{nothing}
 use denote.Param.{layout}
 use denote.Param.Laws.{Laws}
@@ -24,7 +26,7 @@ use denote.Struct.Struct.{within}
 use denote.Struct.Owning.{shape}
 use Rattle.core.specs.declared.alloc.Allocator.{Ghosts}
 use Rattle.core.proofs.alloc.Calls.{Al, handle_tells}
-use Rattle.core.proofs.cell.Inside.{Good, one}
+use Rattle.core.proofs.cell.Inside.{Good}
 use Rattle.std_alloc.specs.Box.Ownership.{box_owns}
 use Rattle.std_alloc.proofs.ResultValues.{and_tt}
 use Rattle.rh_handle.specs.contracts.loose.Loose as loose
@@ -38,11 +40,6 @@ use Rattle.std.proofs.GlobalToken.{dealloc_token-Testable}
 
 abbrev pub both : Val → Val → Val
 both v w = vstruct (vcons v (vcons w vnil))
-
-pub both_tt : (x y : Bool) → T x → T y → T (x && (y && true))
-both_tt true true s t = tt
-both_tt true false s t = absurd t
-both_tt false y s t = absurd s
 
 module _ (R Z : RattleType) (L : Laws Z) (g : Ghosts Z.Denot) where
   abbrev pub Loose : RattleType
@@ -96,7 +93,6 @@ module _ {M : Type 1} {𝓤 : Ura M} (𝓛 : Logic 𝓤) (a : Global) where
   tested p x = fact_use 𝓤 (Testable p) (via 𝓤 _ (snd∗ 𝓤 (sem 𝓛 (lies_at set.the_row full_share p x)) (sem 𝓛 (chunk (bare (lone set.the_row.mir)) p)))
       (dealloc_token-Testable 𝓛 a (bare (lone set.the_row.mir)) p)) (guard_i 𝓤 (Testable p) (sem 𝓛 (box_owns chunk set.the_row p x)))
 
--- a null pointer holds no set, and any other one holds one, and may be tested
 module _ (a : Global) {M : Type 1} {𝓤 : Ura M} {𝓛 : Logic 𝓤} {K : Type 0} {Γ : List (Item 𝓤)} {G : Goal 𝓤 𝓛.H} where
   pub by_holds : K → (p : Ptr) (x : Option set.the_row.Denot) → (x ≡ None → p ≡ null_ptr → Seq K 𝓛 Γ G)
       → ((b o : ℕ) (s : set.the_row.Denot) → x ≡ Some s → p ≡ block_ptr b o → Testable (block_ptr b o) → Seq K 𝓛 (‵ (box_owns chunk set.the_row (block_ptr b o) s) ∷ Γ) G)

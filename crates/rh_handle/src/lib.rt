@@ -1,15 +1,18 @@
-//! A set as C holds it: a pointer.
+//! A set as C keeps it: a pointer, which is null where the set is empty and has no table.
 //!
 //! `rh_c` stands on it. What reaches memory through a raw pointer is proved by hand here, and
-//! nowhere above: `Loose` is a box taken apart, and `Handle` a `Loose` or nothing.
+//! nowhere above: `Loose` is a box taken apart, and `Handle` such a box, or none.
 //!
 //! ```text
-//! let mut set = open(alloc, &mut handle)?;    // the handle's set, or an empty one
-//! set.insert(alloc, 17);
-//! put(alloc, &mut handle, set);
+//! let mut handle = Handle::empty();
+//! let added = handle.insert(alloc, 17)?;      // true, as it was not there
+//! let there = handle.contains(alloc, 17);     // true
+//! handle.clear(alloc);                        // an empty set again
 //! ```
 //!
-//! Proved: a handle owns the set that was put into it, and what is taken from it is that set.
+//! Proved: a handle owns the set that was put into it, and each call makes of that set, and answers,
+//! what the call of `Set` with its name does (`held_in` of `specs/Calls.antt`). A handle may go to
+//! another thread.
 #![tactic(auto)]
 
 mod calls;

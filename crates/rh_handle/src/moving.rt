@@ -10,7 +10,7 @@ use std::alloc::{AllocError, Global};
 use std::mem::replace;
 
 /// Takes the set out of the handle, if there is one.
-pub fn take(alloc: Global, handle: &mut Handle) -> Option<Box<Set, Global>>
+pub(crate) fn take(alloc: Global, handle: &mut Handle) -> Option<Box<Set, Global>>
     ensures taken { option_map (λ b. b.value) result ≡ handle.old.held }
     ensures left { handle.new.held ≡ None }
 {
@@ -19,7 +19,7 @@ pub fn take(alloc: Global, handle: &mut Handle) -> Option<Box<Set, Global>>
 }
 
 /// Takes the set out of the handle, or makes an empty one where there is none.
-pub fn open(alloc: Global, handle: &mut Handle) -> Result<Box<Set, Global>, AllocError>
+pub(crate) fn open(alloc: Global, handle: &mut Handle) -> Result<Box<Set, Global>, AllocError>
     ensures opened { IfOk result (λ b. b.value ≡ set_in handle.old.held) }
     ensures left { handle.new.held ≡ None }
     ensures refused { OnErr result (handle.old.held ≡ None) }
@@ -31,7 +31,7 @@ pub fn open(alloc: Global, handle: &mut Handle) -> Result<Box<Set, Global>, Allo
 }
 
 /// Puts the set into the handle. What was there is freed.
-pub fn put(alloc: Global, handle: &mut Handle, set: Box<Set, Global>)
+pub(crate) fn put(alloc: Global, handle: &mut Handle, set: Box<Set, Global>)
     ensures { handle.new.held ≡ Some set.value }
 {
     let before = replace(handle, Handle::of(Loose::of(set)));
