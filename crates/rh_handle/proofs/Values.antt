@@ -2,7 +2,7 @@
 --     loose_out, loose_in      a `Loose` by value is [its box in memory, with the right to free it; its allocator]
 --     handle_out, handle_in    a `Handle` by value is [what its pointer holds]
 --     loose_good, handle_good  their values have their types
---     by_holds                 the two cases of what a pointer holds: none at null, and else a set, and then it may be tested
+--     boxed, by_holds          a set in a block; the two cases of what a pointer holds: none at null, and else a set, and then it may be tested
 use Rattle.std.proofs.Common.{◌≡◌, ℕ, List, [], ◌∷◌, ◌++◌, refl, subst}
 use mathlib.Core.Bool.{true, ◌&&◌}
 use lib.Dec.{T, lit<}
@@ -11,6 +11,7 @@ use mir.Syntax.{impl, tnil, dnil, ty_ptr}
 use mir.Raw.{raw as bare}
 use mir.Val.{Val, vptr, vstruct, vcons, vnil, of_list, has_ty, WT}
 use base.Logic.{ent, guard, never, fst∗, snd∗, via, guard_i}
+use base.Fml.{Fml}
 use types.Logic.{Logic, sem}
 use types.Kit.{Item, Goal, Seq, Step, step, ‵, given, ◌$◌, use1, learn, move, drop, fsplit, fjoin, fpick, fpack, feq_i, feq_l}
 use denote.RattleType.{RattleType, Valss}
@@ -33,7 +34,7 @@ use Rattle.rh_handle.specs.contracts.loose.Loose as loose
 use Rattle.rh_handle.specs.contracts.handle.Handle as handle
 use Rattle.rh_handle.specs.Holding.{holds}
 use Rattle.rh_set.specs.contracts.set.Set as set
-use Rattle.libc.specs.Heap.{chunk}
+use Rattle.std.specs.contracts.impls.GlobalAllocator.TheImpl.{ghosts}
 use Rattle.std.specs.declared.alloc.Global.{Global}
 use Rattle.std.specs.Prelude.{Option, Some, None}
 use Rattle.std.proofs.GlobalToken.{dealloc_token-Testable}
@@ -88,16 +89,20 @@ pub handle_good : (p : Ptr) → T (has_ty ty_ptr (ptr_val p) && true) × WT (one
 handle_good (block_ptr b o) = (tt, (tt, tt))
 handle_good null_ptr = (tt, (record { fits = lit< tt }, tt))
 
-module _ {M : Type 1} {𝓤 : Ura M} (𝓛 : Logic 𝓤) (a : Global) where
-  tested : (p : Ptr) (x : set.the_row.Denot) → ent 𝓤 (sem 𝓛 (box_owns chunk set.the_row p x)) (guard 𝓤 (Testable p) (sem 𝓛 (box_owns chunk set.the_row p x)))
-  tested p x = fact_use 𝓤 (Testable p) (via 𝓤 _ (snd∗ 𝓤 (sem 𝓛 (lies_at set.the_row full_share p x)) (sem 𝓛 (chunk (bare (lone set.the_row.mir)) p)))
-      (dealloc_token-Testable 𝓛 a (bare (lone set.the_row.mir)) p)) (guard_i 𝓤 (Testable p) (sem 𝓛 (box_owns chunk set.the_row p x)))
+-- a set in a block, and the right to free it
+abbrev pub boxed : Global → Ptr → set.the_row.Denot → Fml
+boxed a p x = box_owns (ghosts.dealloc_token a) set.the_row p x
 
-module _ (a : Global) {M : Type 1} {𝓤 : Ura M} {𝓛 : Logic 𝓤} {K : Type 0} {Γ : List (Item 𝓤)} {G : Goal 𝓤 𝓛.H} where
+module _ {M : Type 1} {𝓤 : Ura M} (𝓛 : Logic 𝓤) (a : Global) where
+  tested : (p : Ptr) (x : set.the_row.Denot) → ent 𝓤 (sem 𝓛 (boxed a p x)) (guard 𝓤 (Testable p) (sem 𝓛 (boxed a p x)))
+  tested p x = fact_use 𝓤 (Testable p) (via 𝓤 _ (snd∗ 𝓤 (sem 𝓛 (lies_at set.the_row full_share p x)) (sem 𝓛 (ghosts.dealloc_token a (bare (lone set.the_row.mir)) p)))
+      (dealloc_token-Testable 𝓛 a (bare (lone set.the_row.mir)) p)) (guard_i 𝓤 (Testable p) (sem 𝓛 (boxed a p x)))
+
+module _ {M : Type 1} {𝓤 : Ura M} {𝓛 : Logic 𝓤} {K : Type 0} {Γ : List (Item 𝓤)} {G : Goal 𝓤 𝓛.H} where
   pub by_holds : K → (p : Ptr) (x : Option set.the_row.Denot) → (x ≡ None → p ≡ null_ptr → Seq K 𝓛 Γ G)
-      → ((b o : ℕ) (s : set.the_row.Denot) → x ≡ Some s → p ≡ block_ptr b o → Testable (block_ptr b o) → Seq K 𝓛 (‵ (box_owns chunk set.the_row (block_ptr b o) s) ∷ Γ) G)
+      → ((a : Global) (b o : ℕ) (s : set.the_row.Denot) → x ≡ Some s → p ≡ block_ptr b o → Testable (block_ptr b o) → Seq K 𝓛 (‵ (boxed a (block_ptr b o) s) ∷ Γ) G)
       → Seq K 𝓛 (‵ (holds p x) ∷ Γ) G
   by_holds t p None none one = feq_l t (λ e. none refl e)
   by_holds t p (Some s) none one =
-      in_a_block t p (λ q. box_owns chunk set.the_row q s) (fst∗ 𝓤 (never 𝓤) (sem 𝓛 (chunk (bare (lone set.the_row.mir)) null_ptr))) (λ b o e.
-      use1 𝓛 (given (Testable (block_ptr b o)) (‵ (box_owns chunk set.the_row (block_ptr b o) s))) (tested 𝓛 a (block_ptr b o) s) $ learn t (λ may. one b o s refl e may))
+      fpick t (λ a. in_a_block t p (λ q. boxed a q s) (fst∗ 𝓤 (never 𝓤) (sem 𝓛 (ghosts.dealloc_token a (bare (lone set.the_row.mir)) null_ptr))) (λ b o e.
+      use1 𝓛 (given (Testable (block_ptr b o)) (‵ (boxed a (block_ptr b o) s))) (tested 𝓛 a (block_ptr b o) s) $ learn t (λ may. one a b o s refl e may)))

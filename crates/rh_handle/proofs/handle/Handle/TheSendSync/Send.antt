@@ -8,7 +8,7 @@ use denote.Struct.Owning.{shape, fields, to}
 use denote.Param.Send.{IsSend, AllSend, owning_send, struct_send, sendable}
 use Rattle.std.specs.Prelude.{Option, Some, None}
 use Rattle.std_alloc.proofs.SendSync.{quiet, lies}
-use Rattle.libc.specs.Heap.{chunk-Keyless}
+use Rattle.std.proofs.Crossing as heap
 use Rattle.rh_set.specs.contracts.set.Set as Set
 use Rattle.rh_set.proofs.set.Set.TheSendSync.{the_send as set_send}
 use Rattle.rh_handle.specs.Holding.{holds}
@@ -16,7 +16,7 @@ use Rattle.rh_handle.specs.contracts.handle.Handle.{the_row, the_type}
 
 holds_keyless : (p : Ptr) (x : Option Set.the_row.Denot) → Keyless (holds p x)
 holds_keyless p None = tt
-holds_keyless p (Some s) = (lies Set.the_row set_send p s, chunk-Keyless (raw (lone Set.the_row.mir)) p)
+holds_keyless p (Some s) = λ alloc. (lies Set.the_row set_send p s, heap.frees.frees alloc (raw (lone Set.the_row.mir)) p)
 
 pub send : IsSend the_row
 send =

@@ -4,7 +4,7 @@ use mir.Val.{Val, vptr}
 use base.Logic.{SProp, ent, emp, id⊢}
 use base.Fml.{ftrue}
 use prog.Wp.{WpFn}
-use types.Kit.{‵, raw, ◌⊛◌, ◌$◌, ◌∵◌, !, qed, by, move, keep, split, fsplit, fjoin, suffices, use0}
+use types.Kit.{fpack, ‵, raw, ◌⊛◌, ◌$◌, ◌∵◌, !, qed, by, move, keep, split, fsplit, fjoin, suffices, use0}
 use types.Run.{stop, fld, of_opd, no_more, and_then, returns, enter}
 use types.ByLocal.{alloc_all, pass_all, free_all, look_at, get, get_in, sets}
 use types.Part.{agg, sub, whole}
@@ -17,11 +17,12 @@ use denote.RawPtr.{block_ptr}
 use denote.Steps.{nothing}
 use denote.Triple.Walked.{Stays, stay_dropped, walk_of, Goes-dropped}
 use Rattle.std.specs.Prelude.{Some}
+use Rattle.std.specs.Global.{Global}
 use Rattle.std.specs.contracts.alloc.Global as heap
 use Rattle.std.proofs.alloc.Global.TheLaws as heap_laws
 use Rattle.std.specs.contracts.impls.GlobalAllocator.TheImpl.{ghosts}
 use Rattle.std.proofs.raw_atomic.Walks.{proved_at, leaves}
-use Rattle.rh_handle.proofs.Values.{both, Loose, loose_good, loose_out, one_of, handle_in, handle_good}
+use Rattle.rh_handle.proofs.Values.{both, Loose, loose_good, loose_out, one_of, handle_in, handle_good, boxed}
 use Rattle.rh_set.specs.contracts.set.Set as set
 use Rattle.rh_handle.specs.contracts.handle.Handle as handle
 use Rattle.rh_handle.specs.contracts.handle.Handle.of.{ended, clauses}
@@ -41,6 +42,7 @@ of_spec 𝓤 𝓛 𝓜 𝓡 wired =
     suffices ! (Run (w ∷ [])) (subst (λ (us : List Val). ent 𝓤 (Run (w ∷ [])) (Run us)) (sym (λ i. ws i ++ [])) (id⊢ 𝓤 (Run (w ∷ [])))) $
     enter ! 𝓣.C 𝓣.Λ fn (w ∷ []) Post $ alloc_all ! (λ l. pass_all ! refl (loose_good R Z LZ ghosts b o h fits, tt) $
     sets ! (of_opd ! (get_in ! (fld ! refl (stop !)) (sub ! 0 refl (whole !)))) refl (tt, tt) $ sets ! (of_opd ! (get ! refl)) refl (tt, tt) $
-    sets ! (agg ! (and_then ! (get ! refl) (no_more !))) refl (handle_good (block_ptr b o)) $ handle_in ! d $
+    sets ! (agg ! (and_then ! (get ! refl) (no_more !))) refl (handle_good (block_ptr b o)) $
+    fpack ! Global (λ a. boxed a (block_ptr b o) v.value) v.alloc $ handle_in ! d $
     use0 𝓛 (raw (fact 𝓤 (d.held ≡ Some v.value))) (fact_i 𝓤 (d.held ≡ Some v.value) (emp 𝓤) refl) $ nothing ! $ nothing ! $ fjoin ! $
     returns ! (look_at ! 0 refl) $ free_all ! refl $ keep ! (5 ∷ 0 ∷ 2 ∷ 1 ∷ []) $ by ! (leaves 𝓛 ended hs c z (one_of (vptr b o)) d (tt, tt) (tt, tt)))))
