@@ -107,10 +107,12 @@ impl Set {
         unsafe { rhset_set_remove(self.held.get(), number) }
     }
 
+    /// Whether a number is there.
     pub fn contains(&self, number: u64) -> bool {
         unsafe { rhset_set_contains(self.held.get(), number) }
     }
 
+    /// How many numbers there are.
     pub fn len(&self) -> usize {
         unsafe { rhset_set_length(self.held.get()) }
     }
@@ -175,6 +177,14 @@ fn filled<T: Clone + Default>(
             NO_MEMORY => return Err(Error::Memory),
             status => unreachable!("rhset.h has no status {status} here"),
         }
+    }
+}
+
+impl fmt::Debug for Set {
+    fn fmt(&self, f: &mut fmt::Formatter<'_>) -> fmt::Result {
+        f.debug_struct("Set")
+            .field("len", &self.len())
+            .finish_non_exhaustive()
     }
 }
 
