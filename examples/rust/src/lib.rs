@@ -1,4 +1,4 @@
-//! What lists of whole numbers have in common, by librhset, which is proved.
+//! What lists of whole numbers have in common, and sets of them, by librhset, which is proved.
 //!
 //! `./install --prefix DIR --library` makes the library; cargo finds it where the variable
 //! RHSET_LIBRARY names `DIR/lib`. Each call takes two lists of numbers up to [`MAX_KEY`], in any
@@ -7,6 +7,12 @@
 //! ```
 //! assert_eq!(rhset::intersect(&[4, 9, 16, 25, 36, 1], &[2, 4, 8, 16, 32]), Ok(vec![4, 16]));
 //! ```
+//!
+//! [`Set`] is a set of such numbers, in a table of the library, which goes with it.
+
+mod set;
+
+pub use set::{InsertError, Set, SnapshotError};
 
 use std::fmt;
 
@@ -71,6 +77,7 @@ struct Detail {
 
 const DONE: u32 = 0;
 const BAD_KEY: u32 = 1;
+const NO_ROOM: u32 = 2;
 const NO_MEMORY: u32 = 3;
 
 type Call =

@@ -1,0 +1,2 @@
+pub mod EmptyLemmas
+pub mod Values

@@ -1,0 +1,3 @@
+pub mod Inserting
+pub mod Putting
+pub mod Snapshot
