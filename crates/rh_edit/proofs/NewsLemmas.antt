@@ -1,6 +1,7 @@
 -- The values of a segment's news, cell by cell.
 use Rattle.std.proofs.Common.{◌≡◌, ℕ, ◌+◌, ◌-◌, ◌<◌, ◌≤◌, sym, ap, ◌∙◌, arith, List, length, take, get_or, get_or-take, length-take}
 use Rattle.std.specs.List.{remove}
+use Rattle.std.proofs.lemmas.Grind.{same_number_lists}
 use Rattle.std.proofs.lemmas.List.Edits.{get_or-insert_below, get_or-insert_at, get_or-insert_above, length-insert, get_or-remove_below, get_or-remove_above, length-remove}
 use Rattle.rh_edit.specs.News.{inserted_at, shifted_back}
 
@@ -28,6 +29,10 @@ module _ (value : ℕ) (seen : List ℕ) (at : ℕ) (inside : at < length seen) 
       let e : i ≡ (i - 1) + 1 = omega arith in
       sym (ap (λ m. get_or (inserted_at value seen at) m 0) e ∙ get_or-insert_above (take (length seen - 1) seen) at value 0 (i - 1) (omega arith) (omega (arith, front_len)) ∙ get_or-take (length seen - 1) seen (i - 1) 0 l)
 
+pub ruleset inserted_list = (inserted_at_len, same_number_lists)
+
+pub ruleset inserted_values = (inserted_at_below, inserted_at_at, inserted_at_above)
+
 module _ (seen : List ℕ) (at : ℕ) (inside : at + 1 < length seen) where
   rest_len : length (remove seen at) + 1 ≡ length seen
   rest_len = length-remove seen at (omega arith)
@@ -50,3 +55,7 @@ module _ (seen : List ℕ) (at : ℕ) (inside : at + 1 < length seen) where
   shifted_back_last i e =
       let is : i ≡ (length seen - 2) + 1 = omega arith in
       sym (ap (λ m. get_or (shifted_back seen at) m 0) is ∙ get_or-insert_above (remove seen at) (length seen - 2) 0 0 (length seen - 2) (omega arith) (omega (arith, rest_len)) ∙ get_or-remove_above seen at 0 (length seen - 2) (omega arith) (omega arith) ∙ ap (λ m. get_or seen m 0) (sym is))
+
+pub ruleset shifted_list = (shifted_back_len, same_number_lists)
+
+pub ruleset shifted_values = (shifted_back_below, shifted_back_moved, shifted_back_cleared, shifted_back_last)

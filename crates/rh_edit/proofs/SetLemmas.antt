@@ -54,6 +54,8 @@ pos_of_contains S k has =
       | inl none ↦ let e : contains S k ≡ false = ap (λ (T : Keys). contains T k) (empty_of_len S none) ∙ contains-empty nat_cmp k in (cc)
     ]
 
+pub ruleset removed_members = (set_members, pos_of_contains)
+
 -- ---- the set of a list
 
 pub len-from_list : (keys : List ℕ) → set.len (set.from_list {R = nat_cmp} keys) ≤ length keys

@@ -6,7 +6,7 @@ ghost use Rattle.rh_edit.specs.News.{inserted_at, shifted_back};
 
 /// Writes the segment with the key at offset `at`, and what stood from there on moved on by one
 /// cell. The last cell of `seen`, the first empty one from `at` on, is what that fills.
-#[tactic(auto, using(crate::proofs::NewsLemmas::inserted_at_len, std::proofs::lemmas::Grind::same_number_lists))]
+#[tactic(auto, using(crate::proofs::NewsLemmas::inserted_list))]
 pub fn insert_news(key: u64, seen: &[u64], at: usize, news: &mut [u64])
     requires key { IsKey key }
     requires lengths { length news.old ≡ length seen.now }
@@ -19,7 +19,7 @@ pub fn insert_news(key: u64, seen: &[u64], at: usize, news: &mut [u64])
     }
 }
 
-#[tactic(auto, using(crate::proofs::NewsLemmas::inserted_at_below, crate::proofs::NewsLemmas::inserted_at_at, crate::proofs::NewsLemmas::inserted_at_above))]
+#[tactic(auto, using(crate::proofs::NewsLemmas::inserted_values))]
 fn value_with(value: u64, seen: &[u64], at: usize, i: usize) -> u64
     requires at { at < length seen.now }
     requires i { i < length seen.now }
@@ -36,7 +36,7 @@ fn value_with(value: u64, seen: &[u64], at: usize, i: usize) -> u64
 
 /// Writes the segment without what stands at offset `at`: what stands after it, up to the offset
 /// before the last, moves back by one, the offset before the last is empty, and the last stays.
-#[tactic(auto, using(crate::proofs::NewsLemmas::shifted_back_len, std::proofs::lemmas::Grind::same_number_lists))]
+#[tactic(auto, using(crate::proofs::NewsLemmas::shifted_list))]
 pub fn remove_news(seen: &[u64], at: usize, news: &mut [u64])
     requires lengths { length news.old ≡ length seen.now }
     requires at { at + 1 < length seen.now }
@@ -47,7 +47,7 @@ pub fn remove_news(seen: &[u64], at: usize, news: &mut [u64])
     }
 }
 
-#[tactic(auto, using(crate::proofs::NewsLemmas::shifted_back_below, crate::proofs::NewsLemmas::shifted_back_moved, crate::proofs::NewsLemmas::shifted_back_cleared, crate::proofs::NewsLemmas::shifted_back_last))]
+#[tactic(auto, using(crate::proofs::NewsLemmas::shifted_values))]
 fn value_without(seen: &[u64], at: usize, i: usize) -> u64
     requires at { at + 1 < length seen.now }
     requires i { i < length seen.now }

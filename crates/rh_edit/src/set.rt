@@ -137,7 +137,7 @@ impl SeqSet {
     }
 
     /// Takes a key out, and answers whether it was there.
-    #[tactic(auto, using(crate::proofs::SetLemmas::set_members, crate::proofs::SetLemmas::pos_of_contains))]
+    #[tactic(auto, using(crate::proofs::SetLemmas::removed_members))]
     pub fn remove(&mut self, key: u64) -> bool
         requires { IsKey key }
         ensures bits { self.new.bits ≡ self.old.bits }

@@ -136,6 +136,8 @@ counts header (Some x) (Some y) h = λ keys is.
     let same : t.0.0 ≡ keys = same_value (t.0.0, u.0.1) p.0 u.2 ∙ p.2 in
     ap length (sym same) ∙ (keys_read header.version 0 header.count y t.0 t.1).many
 
+pub ruleset at_the_beginning = (comes, counts, does_not_come)
+
 header_counts : (bytes keys : List ℕ) (read : Result (Header × List ℕ) KeyFault) → header_at bytes ≡ read → keys_of_file bytes ≡ Ok keys → (read >>= (λ header. Ok header.0.count)) ≡ Ok (length keys)
 unfolding file_keys
 header_counts bytes keys (Ok header) is all = ap (λ (n : ℕ). Ok n) (sym (counts header.0 (Some bytes) (Some header.1) is keys all))

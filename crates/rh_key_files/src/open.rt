@@ -18,7 +18,7 @@ use rh_bytes::Counted;
 use std::io::Read;
 
 /// Reads the header: the version and the number of keys.
-#[tactic(auto, using(crate::proofs::Coming::comes, crate::proofs::Coming::counts, crate::proofs::Coming::does_not_come))]
+#[tactic(auto, using(crate::proofs::Coming::at_the_beginning))]
 pub fn open_keys<R: Read>(reader: &mut Counted<R>) -> Result<KeyStream<'_, R>, KeyFault>
     ensures header { ReadsHeader R.remaining (inner_of reader.old) result }
     ensures opened { IfOk result (λ s. IsOpened R.remaining reader.old s) }

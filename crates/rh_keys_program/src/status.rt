@@ -47,7 +47,8 @@ pub enum Fault {
     TwoOutputs,
     /// A part of a list is too full; so many parts would do, by the size of the input. (All repeats
     /// of a number go to one part, which no number of parts helps.)
-    #[error("part {part:03}: more than {} keys; by the size of the input {parts} parts would do, where no number repeats so often", MAX_KEYS)]
+    #[error("part {part:03}: more than {} keys; by the size of the input {parts} parts would do, \
+         where no number repeats so often", MAX_KEYS)]
     TooFull {
         part: u64,
         parts: u64,

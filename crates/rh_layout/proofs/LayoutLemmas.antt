@@ -4,7 +4,7 @@ use Rattle.rh_layout.specs.Round.{cell_ahead}
 use Rattle.rh_layout.specs.Key.{IsKey, IsBits, cell_of, key_in}
 use Rattle.rh_layout.specs.Order.{home_of, home_in, dist_of, Beats}
 use Rattle.rh_layout.specs.Layout.{Keys, Holds, IsBeatenAt, Layout, IsLayout, keys_of}
-use Rattle.rh_layout.proofs.HomeLemmas.{home_below}
+use Rattle.rh_layout.proofs.HomeLemmas.{is_cell}
 use Rattle.rh_layout.proofs.RoundLemmas.{ahead_below}
 use Rattle.rh_layout.proofs.OrderLemmas.{Ahead, HoldsAhead, IsOrdered}
 use Rattle.rh_layout.proofs.HeldLemmas.{once_from_ordered}
@@ -16,7 +16,7 @@ abbrev pub at : List ℕ → ℕ → ℕ
 at cells c = get_or cells c 0
 
 pub low_of : (b : ℕ) → IsBits b → (k : ℕ) → home_of b k < 2 ^ b
-low_of b fits k = home_below b k (omega arith)
+low_of b fits k = is_cell b k (omega arith)
 
 pub low_in : (b : ℕ) → IsBits b → (value : ℕ) → home_in b value < 2 ^ b
 low_in b fits value = low_of b fits (key_in value)

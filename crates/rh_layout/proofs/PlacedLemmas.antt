@@ -19,6 +19,8 @@ back_one n c c_in some = grind (arith, back_next n c c_in)
 pub back_round : (n c : ℕ) → c < n → c ≡ 0 → n - 1 ≡ cell_behind n c
 back_round n c c_in none = grind (arith, back_next n c c_in)
 
+pub ruleset back = (back_one, back_round)
+
 same_before : (n p q c : ℕ) → IsNext n p c → IsNext n q c → p ≡ q
 same_before n p q c a b = grind arith
 

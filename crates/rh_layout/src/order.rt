@@ -8,7 +8,7 @@ ghost use Rattle.rh_layout.specs.Order.{home_of, dist_of, Beats};
 const MULTIPLIER: u64 = 11400714819323198485;
 
 /// The cell where the search for a key begins.
-#[tactic(auto, using(crate::proofs::HomeLemmas::home_below), unfolding(crate::specs::Order::home_of))]
+#[tactic(auto, using(crate::proofs::HomeLemmas::is_cell), unfolding(crate::specs::Order::home_of))]
 pub fn home(bits: u32, key: u64) -> usize
     requires { IsBits bits }
     ensures value { result ≡ home_of bits key }

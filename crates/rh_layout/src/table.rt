@@ -51,7 +51,7 @@ fn is_placed(bits: u32, cells: &[u64], cell: usize) -> bool
     }
 }
 
-#[tactic(auto, using(crate::proofs::PlacedLemmas::back_one, crate::proofs::PlacedLemmas::back_round))]
+#[tactic(auto, using(crate::proofs::PlacedLemmas::back))]
 fn cell_before(size: usize, cell: usize) -> usize
     requires { cell < size }
     ensures value { result ≡ cell_behind size cell }

@@ -23,6 +23,8 @@ pub part_below : (parts key : ℕ) → 0 < parts → part_of parts key < parts
 unfolding part_of
 part_below parts key some = piece_below parts (mixed key % 2 ^ 32) some (mod-lt (mixed key) (pow_pos 32))
 
+pub ruleset is_part = (part_below, fits)
+
 module _ (passes : ℕ → Bool) where
   behind : (y : ℕ) (ys : List ℕ) (x : ℕ) → Contains ys x → Contains (y ∷ ys) x
   behind y ys x (k, inside, is) = (suc k, omega (arith, inside), is)

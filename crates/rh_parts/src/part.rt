@@ -15,7 +15,7 @@ const MULTIPLIER: u64 = 0xD6E8_FEB8_6659_FD93;
 /// It goes by a hash of the key, so that parts are about as large as one another, whatever the keys
 /// are. The home of a key in a table is the high bits of another product, so that the keys of a
 /// part stand all over their table.
-#[tactic(auto, using(crate::proofs::Parts::part_below, crate::proofs::Parts::fits), unfolding(crate::specs::Parts::part_of))]
+#[tactic(auto, using(crate::proofs::Parts::is_part), unfolding(crate::specs::Parts::part_of))]
 pub fn part_of(parts: u64, key: u64) -> u64
     requires some { 0 < parts }
     requires few { parts ≤ MAX_PARTS }

@@ -1,11 +1,10 @@
 -- What a front of cells tells about a layout.
-use Rattle.std.proofs.Common.{◌≡◌, ℕ, ◌+◌, ◌*◌, ◌%◌, ◌^◌, ◌<◌, sym, ap, ◌∙◌, arith, List, length, false}
+use Rattle.std.proofs.Common.{◌≡◌, ℕ, ◌^◌, ◌<◌, sym, ap, ◌∙◌, arith, List, length, false}
 use Rattle.std.specs.Prelude.{IsTrue}
 use Rattle.std.specs.FinSet.{contains}
-use Rattle.std.proofs.lemmas.Nat.{one_shl}
 use Rattle.rh_layout.specs.Round.{steps_round, cell_ahead}
 use Rattle.rh_layout.specs.Key.{IsBits, cell_of}
-use Rattle.rh_layout.specs.Order.{home_of, home_in, dist_of, Beats}
+use Rattle.rh_layout.specs.Order.{home_of, home_in, dist_of}
 use Rattle.rh_layout.specs.Layout.{Keys, Layout}
 use Rattle.rh_layout.proofs.RoundLemmas.{ahead_below, cell_ahead-steps, steps-cell_ahead}
 use Rattle.rh_layout.proofs.HeldLemmas.{not_held}
@@ -14,11 +13,6 @@ use Rattle.rh_layout.proofs.SetLemmas.{not_true}
 use Rattle.rh_probe.specs.Look.{IsPassedAt, AllPassed, Finds, IsProbeLength}
 use Rattle.rh_probe.specs.Segment.{IsFront}
 use Rattle.rh_probe.specs.declared.answer.Look.TheVariants.{Here, Goes}
-
--- the scan's word for a cell
-pub passed_here : (b k : ℕ) (seen : List ℕ) (i j first : ℕ) → first ≡ home_of b k → IsBits b → at seen i ≡ cell_of j → Beats b ((first + i) % (1 * 2 ^ b % 18446744073709551616)) j k → IsPassedAt b k seen i
-unfolding cell_ahead
-passed_here b k seen i j first e fits is beats = (j, is, rw (one_shl b 64 (omega arith), e) at beats)
 
 -- A key that does not stand where its search ends stands nowhere.
 pub fresh_from_probe : (b : ℕ) (cells : List ℕ) (k i : ℕ) (S : Keys) → Layout cells b S → IsProbeLength b cells k i → (at cells (cell_ahead (2 ^ b) (home_of b k) i) ≡ cell_of k → ⊥) → contains S k ≡ false

@@ -19,6 +19,8 @@ after_ahead n from i p q less = grind (arith, ahead_cases n from i p q)
 pub after_round : (n from i : ℕ) → from < n → i < n → n ≤ from + i → from + i - n ≡ cell_ahead n from i
 after_round n from i p q past = grind (arith, ahead_cases n from i p q)
 
+pub ruleset after = (after_ahead, after_round)
+
 -- the cell where a walk round the table begins, and one step of it
 pub walk_starts : (n h cell : ℕ) → h < n → cell ≡ h → cell ≡ cell_ahead n h 0
 walk_starts n h cell h_in e = grind (arith, ahead_cases n h 0 h_in (omega arith))
@@ -45,10 +47,15 @@ passed_all b cells k i fits size all passed free =
     let beaten = passed free.0 c_in (omega (arith, steps_below (2 ^ b) (home_of b k) free.0 (omega arith))) in
     omega (arith, beaten.1.1, free.2)
 
-pub away_more : (b h : ℕ) (seen : List ℕ) (i j : ℕ) → IsBits b → ((p : ℕ) → i < p → p < j → IsAway b (cell_ahead (2 ^ b) h p) (at seen p)) → IsAway b ((h + j) % (1 * 2 ^ b % 18446744073709551616)) (at seen j) → (p : ℕ) → i < p → p < j + 1 → IsAway b (cell_ahead (2 ^ b) h p) (at seen p)
+pub spot_at : (b from i : ℕ) → IsBits b → (from + i) % (1 * 2 ^ b % 18446744073709551616) ≡ cell_ahead (2 ^ b) from i
 unfolding cell_ahead
+spot_at b from i fits = ap (λ n. (from + i) % n) (one_shl b 64 (omega arith))
+
+pub ruleset spot = (one_shl, spot_at)
+
+pub away_more : (b h : ℕ) (seen : List ℕ) (i j : ℕ) → IsBits b → ((p : ℕ) → i < p → p < j → IsAway b (cell_ahead (2 ^ b) h p) (at seen p)) → IsAway b (cell_ahead (2 ^ b) h j) (at seen j) → (p : ℕ) → i < p → p < j + 1 → IsAway b (cell_ahead (2 ^ b) h p) (at seen p)
 away_more b h seen i j fits before here p above below =
     elim (cases_lt p j) [
       | inl less ↦ before p above less
-      | inr last ↦ let same : j ≡ p = omega arith in rw (one_shl b 64 (omega arith), same) at here
+      | inr last ↦ let same : j ≡ p = omega arith in rw same at here
     ]

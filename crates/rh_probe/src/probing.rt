@@ -21,7 +21,7 @@ pub fn next_cell(size: usize, cell: usize) -> usize
 }
 
 /// The cell that so many steps round the table lead to.
-#[tactic(auto, using(crate::proofs::ProbeLemmas::after_ahead, crate::proofs::ProbeLemmas::after_round))]
+#[tactic(auto, using(crate::proofs::ProbeLemmas::after))]
 pub fn cell_after(size: usize, from: usize, steps: usize) -> usize
     requires from { from < size }
     requires steps { steps < size }

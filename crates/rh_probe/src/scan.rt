@@ -9,16 +9,26 @@ ghost use Rattle.rh_probe.specs.Segment.{IsAway, IsFirstFree, IsFirstStop};
 use crate::answer::Look;
 use rh_layout::{beats, home, key_in};
 
+/// The cell that so many steps round a table lead to, also more of them than it has cells.
+#[tactic(auto, using(crate::proofs::ProbeLemmas::spot))]
+fn cell_at(bits: u32, from: usize, steps: usize) -> usize
+    requires bits { IsBits bits }
+    requires from { from < 2 ^ bits }
+    requires steps { steps < 2 ^ 63 }
+    ensures value { result ≡ cell_ahead (2 ^ bits) from steps }
+    ensures in_table { result < 2 ^ bits }
+{
+    (from + steps) % (1 << bits)
+}
+
 /// What the first offset that decides tells of the key: the one that holds it, or that is empty or
 /// holds a key that does not beat it there (Celis 1986). `seen` is what consecutive cells hold,
 /// from the key's home on.
-#[tactic(auto, unfolding(rh_layout::specs::Round::cell_ahead), using(std::proofs::lemmas::Nat::one_shl))]
 pub fn look(bits: u32, key: u64, seen: &[u64]) -> Look
     requires bits { IsBits bits }
     requires key { IsKey key }
     ensures { Finds bits key seen.now result }
 {
-    let size = 1usize << bits;
     let first = home(bits, key);
     for (i, value) in seen.iter().enumerate() {
         let Some(found) = key_in(*value) else {
@@ -27,7 +37,7 @@ pub fn look(bits: u32, key: u64, seen: &[u64]) -> Look
         if found == key {
             return Look::Here(i);
         }
-        if !beats(bits, (first + i) % size, found, key) {
+        if !beats(bits, cell_at(bits, first, i), found, key) {
             return Look::Goes(i);
         }
     }
@@ -46,7 +56,6 @@ pub fn free_after(seen: &[u64], i: usize) -> Option<usize>
 /// The first offset after `i` that is empty or holds a key at its home; there is none after the
 /// last. What stands between can move back by one. `cell` is the cell of the first offset of
 /// `seen`.
-#[tactic(auto, unfolding(rh_layout::specs::Round::cell_ahead), using(std::proofs::lemmas::Nat::one_shl))]
 pub fn stop_after(bits: u32, cell: usize, seen: &[u64], i: usize) -> Option<usize>
     requires bits { IsBits bits }
     requires cell { cell < 2 ^ bits }
@@ -55,9 +64,8 @@ pub fn stop_after(bits: u32, cell: usize, seen: &[u64], i: usize) -> Option<usiz
         IsAway bits (cell_ahead (2 ^ bits) cell p) (slice_index seen.now p))
         (λ j. IsFirstStop bits cell seen.now i j) }
 {
-    let size = 1usize << bits;
     for j in i.saturating_add(1)..seen.len() {
-        if !is_movable(bits, (cell + j) % size, seen[j]) {
+        if !is_movable(bits, cell_at(bits, cell, j), seen[j]) {
             return Some(j);
         }
     }

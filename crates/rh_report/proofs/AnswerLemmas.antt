@@ -3,6 +3,7 @@ use Rattle.std.proofs.Common.{◌≡◌, ◌∙◌, ap, sym, refl, arith, ℕ, z
 use Rattle.std.specs.Prelude.{map}
 use Rattle.std.proofs.Math.Nat.{eq-or-lt_of_le}
 use Rattle.std.proofs.lemmas.Bool.{ne_eqb}
+use Rattle.std.proofs.lemmas.Grind.{same_number_lists}
 use Rattle.std.proofs.lemmas.List.{length-take}
 use Rattle.rh_report.specs.declared.answers.TheConstants.{ANSWERS_PER_LINE}
 use Rattle.rh_report.specs.Texts.{digit_of, digits_from}
@@ -11,6 +12,8 @@ pub digit_at : (answers : List Bool) (i : ℕ) (b : Bool) → i < length answers
 digit_at [] i b inside = absurd (omega (arith, inside))
 digit_at (a ∷ answers) zero b inside = refl
 digit_at (a ∷ answers) (suc i) b inside = digit_at answers i b (omega (arith, inside))
+
+pub ruleset digit_list = (digit_at, same_number_lists)
 
 -- digits that fill the line
 full : (n : ℕ) (line after : List Bool) → 0 < length line → n + length line ≡ ANSWERS_PER_LINE → digits_from n (line ++ after) ≡ map digit_of line ++ (codes "\n" ++ digits_from 0 after)

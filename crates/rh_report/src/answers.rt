@@ -59,7 +59,7 @@ fn write_answer_line<W: Write>(writer: &mut Counted<W>, answers: &[bool]) -> Res
     write_texts(writer, &[digits, b"\n"])
 }
 
-#[tactic(auto, using(crate::proofs::AnswerLemmas::digit_at, std::proofs::lemmas::Grind::same_number_lists))]
+#[tactic(auto, using(crate::proofs::AnswerLemmas::digit_list))]
 fn put_digits(answers: &[bool], digits: &mut [u8])
     requires { length digits.old ≡ length answers.now }
     ensures { digits.new ≡ map digit_of answers.now }

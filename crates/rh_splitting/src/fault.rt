@@ -50,7 +50,8 @@ pub enum FilesFault {
     #[error("part {part:03}: cannot make the key file")]
     Create { part: u64 },
     /// All names beside its place are taken.
-    #[error("part {part:03}: too many files of runs that were cut: remove {part:03}/NAME.keys{}*", BESIDE)]
+    #[error("part {part:03}: too many files of runs that were cut: \
+         remove {part:03}/NAME.keys{}*", BESIDE)]
     Left { part: u64 },
     #[error("part {part:03}: cannot write the key file")]
     Write { part: u64 },
