@@ -83,7 +83,7 @@ fn steps_are_told(rt: HostRuntime) -> Result<(), Fail> {
         7 1 decide control 0 found 0 undecided now 0 succeeded\n\
         8 1 release cell 4 found desc 0 0 now key 0\n\
         9 2 claim counter found 3 now 4\n\
-        18446744073709551615 3 write note 3 2 found 5 now 6\n";
+        18446744073709551615 3 write reason 3 2 found 5 now 6\n";
     assert_eq!(rt; out.as_slice(), text.as_bytes());
     Ok(())
 }

@@ -28,7 +28,7 @@ part_text (EntryNew worker entry) = entry_text worker entry (codes " new")
 part_text (MarkSerial worker) = codes "mark " ++ (decimal worker ++ codes " serial")
 part_text (MarkDesc worker) = codes "mark " ++ (decimal worker ++ codes " desc")
 part_text (MarkEntry worker) = codes "mark " ++ (decimal worker ++ codes " entry")
-part_text (Reason worker owner) = codes "note " ++ (decimal worker ++ (codes " " ++ decimal owner))
+part_text (Reason worker owner) = codes "reason " ++ (decimal worker ++ (codes " " ++ decimal owner))
 part_text Counter = codes "counter"
 
 -- ---- words

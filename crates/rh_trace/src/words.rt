@@ -24,7 +24,7 @@ pub(crate) fn part_phrase(part: Part) -> Phrase
         Part::MarkSerial { worker } => Phrase::after_word("mark ", worker as u64, " serial"),
         Part::MarkDesc { worker } => Phrase::after_word("mark ", worker as u64, " desc"),
         Part::MarkEntry { worker } => Phrase::after_word("mark ", worker as u64, " entry"),
-        Part::Reason { worker, owner } => Phrase::pair("note ", worker as u64, owner as u64, ""),
+        Part::Reason { worker, owner } => Phrase::pair("reason ", worker as u64, owner as u64, ""),
         Part::Counter => Phrase::word("counter"),
     }
 }
