@@ -1,8 +1,8 @@
 //! From one list of acts to the set: what the acts of several workers make of a Robin Hood table,
 //! with no word and no thread.
 //!
-//! These laws take one list of acts, each of which meets its old values. `rh_run` finds such a list
-//! in what the workers of a table have done; `rh_worker` plans its acts by the two functions.
+//! These laws take one list of acts, each of which meets its old values. `rh_order` finds such a
+//! list in what the workers of a table have done; `rh_worker` plans its acts by the two functions.
 //!
 //! Proved:
 //!

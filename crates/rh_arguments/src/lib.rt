@@ -5,9 +5,9 @@
 //! Proved:
 //!
 //! - `program_command` and `text_arg` build the program and the argument of `specs/Words.antt`,
-//!   `described` and `with_subcommand` the command that `clap` says.
-//! - `parsed`: what is found is what the words name by the rules of `clap`. They are refused
-//!   exactly by the kinds of fault that those rules give.
+//!   `describe` and `with_subcommand` the command that `clap` says.
+//! - `find_arguments`: what is found is what the words name by the rules of `clap`. They are
+//!   refused exactly by the kinds of fault that those rules give.
 //! - `text`, `texts`, `number`: what was found for an argument.
 #![tactic(auto)]
 

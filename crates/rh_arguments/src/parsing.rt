@@ -26,7 +26,7 @@ pub fn program_command<'a>(
 ) -> Result<Command<'a>, AllocError>
     ensures { IfOk result (λ c. app_of c ≡ program_app name.now) }
 {
-    described(alloc, name, about, long_about, statuses)
+    describe(alloc, name, about, long_about, statuses)
         .version(VERSION)
         .subcommand_required(true)
         .bin_name(name)
@@ -34,7 +34,7 @@ pub fn program_command<'a>(
 
 /// A command of this name that takes nothing yet, with the texts that `-h` and `--help` print of
 /// it.
-pub fn described<'a>(
+pub fn describe<'a>(
     alloc: Global,
     name: &'a str,
     about: &'a str,
@@ -65,7 +65,10 @@ pub fn with_subcommand<'a>(
 /// What the command finds in the words.
 /// Want of memory may be told whatever the words say: what `clap` is told of the commands takes
 /// some.
-pub fn parsed<'a>(command: Command<'a>, words: &'a [String]) -> Result<ArgMatches<'a>, LineFault>
+pub fn find_arguments<'a>(
+    command: Command<'a>,
+    words: &'a [String],
+) -> Result<ArgMatches<'a>, LineFault>
     requires { is_simple_and_free (app_of command) ≡ true }
     ensures found { IfOk result (λ m.
         subcommand_rows_of m ≡ subcommand_of (app_of command.entry) (texts_of words.now)) }
@@ -89,12 +92,12 @@ pub fn texts(alloc: Global, given: &ArgMatches<'_>, id: &str) -> Result<Vec<Stri
     ensures { IfOk result (λ ts. GivesAll id.now (rows_of (found_of given.now)) ts.items) }
 {
     match given.get_strs(id) {
-        Some(texts) => copied(alloc, texts),
+        Some(texts) => copy_texts(alloc, texts),
         None => Ok(Vec::new(alloc)),
     }
 }
 
-fn copied(alloc: Global, texts: &[&str]) -> Result<Vec<String>, AllocError>
+fn copy_texts(alloc: Global, texts: &[&str]) -> Result<Vec<String>, AllocError>
     ensures { IfOk result (λ ts. texts_of ts.items ≡ map (λ t. t.now) texts.now) }
 {
     let mut copies = Vec::new(alloc);

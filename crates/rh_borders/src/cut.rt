@@ -48,7 +48,7 @@ fn numbers_of(alloc: Global, borders: &Borders, keys: &[u64]) -> Result<Vec<u16>
 }
 
 /// How many keys each part has. So much room is taken for them at once; no more depends on it.
-fn counted(alloc: Global, numbers: &[u16], parts: usize) -> Result<Vec<usize>, AllocError>
+fn count_in_parts(alloc: Global, numbers: &[u16], parts: usize) -> Result<Vec<usize>, AllocError>
     requires { All (λ n. n < parts) numbers.now }
     ensures { IfOk result (λ v. length v.items ≡ parts) }
 {
@@ -66,7 +66,7 @@ pub(crate) fn cut_piece(alloc: Global, borders: &Borders, keys: &[u64]) -> Resul
     ensures { IfOk result (λ parts. AreParts borders.now.values.items keys.now parts) }
 {
     let numbers = numbers_of(alloc, borders, keys)?;
-    let counts = counted(alloc, &numbers, borders.values.len() - 1)?;
+    let counts = count_in_parts(alloc, &numbers, borders.values.len() - 1)?;
     let mut parts = Parts::with_room(alloc, &counts)?;
     for (i, number) in numbers.iter().enumerate() {
         parts.put(usize::from(*number), keys[i])?;

@@ -26,7 +26,7 @@ ending_of DisplayHelp = Done
 ending_of DisplayVersion = Done
 ending_of _ = CommandLine
 
--- how a run ends that a fault ended early which any command may meet
+-- how a run ends that a fault status_by early which any command may meet
 abbrev pub ending_by_program : ProgramFault → Status
 ending_by_program fault.NotText = CommandLine
 ending_by_program fault.Open = Refused
@@ -34,10 +34,10 @@ ending_by_program fault.Memory = Memory
 ending_by_program fault.Write = Write
 
 -- how a command ends: a fault of its work comes first, then that its output was not written out, and else it is done
-abbrev pub ended : {E : Type 0} → (told written : Result (Unit {0}) E) → Result Status E
-ended (Err fault) written = Err fault
-ended (Ok x) (Err fault) = Err fault
-ended (Ok x) (Ok y) = Ok Done
+abbrev pub status_by : {E : Type 0} → (told written : Result (Unit {0}) E) → Result Status E
+status_by (Err fault) written = Err fault
+status_by (Ok x) (Err fault) = Err fault
+status_by (Ok x) (Ok y) = Ok Done
 
 -- the same outcome, with its fault told as one of a program
 abbrev pub told_as : {X E F : Type 0} → (E → F) → Result X E → Result (Unit {0}) F
@@ -60,7 +60,7 @@ pub record Ends {X E F : Type 0} (Tells : E → F → Type 0) (of_program : Prog
   pub tells : ToldAs Tells outcome told
   pub written : Result (Unit {0}) F
   pub unwritten : IfErr written (λ f. f ≡ of_program fault.Write)
-  pub ends : r ≡ ended told written
+  pub ends : r ≡ status_by told written
 
 -- The same of a command that is left with its writer: nothing stands in its buffer any more where the command is done.
 pub record EndsWith {X E F W : Type 0} (contents : W → Option (List ℕ)) (Tells : E → F → Type 0) (of_program : ProgramFault → F) (Works : Option (List ℕ) → Result X E → Type 0) (r : Result Status F × BufWriter W Global) : Type 0 where
@@ -71,7 +71,7 @@ pub record EndsWith {X E F W : Type 0} (contents : W → Option (List ℕ)) (Tel
 pub record Finishes {F W : Type 0} (contents : W → Option (List ℕ)) (told : Result (Unit {0}) F) (unwritten : F) (writer : BufWriter W Global) (r : Result Status F × BufWriter W Global) : Type 0 where
   pub written : Result (Unit {0}) F
   pub fails : IfErr written (λ f. f ≡ unwritten)
-  pub ends : r.0 ≡ ended told written
+  pub ends : r.0 ≡ status_by told written
   pub kept : Keeps (writer_contents contents writer) (writer_contents contents r.1)
   pub empty : OnOk r.0 (writer_buffer r.1 ≡ [])
 

@@ -5,7 +5,7 @@ ghost use Rattle.std.specs.Io.Buffered.{reader_buffer, reader_capacity, reader_i
 ghost use Rattle.std.specs.Io.Buffered.{writer_buffer, writer_capacity, writer_inner};
 ghost use Rattle.rh_cli.specs.Endings.{Finishes};
 
-use crate::status::{ProgramFault, Status, ended};
+use crate::status::{ProgramFault, Status, status_of};
 use std::alloc::Global;
 use std::io::{BufReader, BufWriter, Read, Write};
 
@@ -55,5 +55,5 @@ pub fn finish<F: Drop, W: Write + Drop>(
         Ok(()) => Ok(()),
         Err(_) => Err(unwritten),
     };
-    (ended(told, written), writer)
+    (status_of(told, written), writer)
 }

@@ -40,7 +40,7 @@ impl Grid {
 
 /// How many keys of a list stand in each part. So much room is taken for them at once; no more
 /// depends on it.
-fn counted(alloc: Global, grid: &Grid, keys: &[u64]) -> Result<Vec<usize>, AllocError>
+fn count_in_parts(alloc: Global, grid: &Grid, keys: &[u64]) -> Result<Vec<usize>, AllocError>
     requires { IsGrid grid.now }
     ensures { IfOk result (λ v. vec_len v ≡ grid.now.parts) }
 {
@@ -87,7 +87,7 @@ pub(crate) fn cut(alloc: Global, grid: &Grid, keys: &[u64]) -> Result<Vec<Vec<u6
     ensures parts { IfOk result (λ v. (p : ℕ) (d : _) → p < grid.now.parts →
         (slice_index_or v.items p d).items ≡ in_part grid.now p keys.now) }
 {
-    let counts = counted(alloc, grid, keys)?;
+    let counts = count_in_parts(alloc, grid, keys)?;
     let mut parts = empty_parts(alloc, &counts)?;
     for key in keys {
         if let Some(part) = grid.part_of(*key) {

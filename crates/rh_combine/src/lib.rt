@@ -4,10 +4,10 @@
 //! `rh_combine_workers` stands on it, for lists that several workers share.
 //!
 //! ```text
-//! combined(alloc, How::Intersect, &[&[1, 9], &[9, 9, 4]])?    // 9
-//! combined(alloc, How::Union, &[&[1, 9], &[9, 9, 4]])?        // 1, 4, 9
-//! combined(alloc, How::Subtract, &[&[1, 9], &[9, 9, 4]])?     // 1
-//! combined(alloc, How::Xor, &[&[1, 9], &[9, 9, 4]])?          // 1, 4
+//! combine(alloc, How::Intersect, &[&[1, 9], &[9, 9, 4]])?    // 9
+//! combine(alloc, How::Union, &[&[1, 9], &[9, 9, 4]])?        // 1, 4, 9
+//! combine(alloc, How::Subtract, &[&[1, 9], &[9, 9, 4]])?     // 1
+//! combine(alloc, How::Xor, &[&[1, 9], &[9, 9, 4]])?          // 1, 4
 //! ```
 //!
 //! Lists of more than some 24,000 numbers are cut into ranges, and these again, until the numbers
@@ -15,7 +15,7 @@
 //!
 //! Proved:
 //!
-//! - `combined`: the rising list of what the lists mean by sets: intersection, union, difference,
+//! - `combine`: the rising list of what the lists mean by sets: intersection, union, difference,
 //!   or what is in one set and not in both, list after list.
 //! - `members`: a number is in it exactly where it stands in each list, in one or more, in the
 //!   first and no other one, or in an odd number of them; and the list rises.
@@ -34,4 +34,4 @@ mod table;
 
 pub use how::How;
 pub use laws::{all_in_range, members, range_of_lists, ranges_join};
-pub use ranges::combined;
+pub use ranges::combine;

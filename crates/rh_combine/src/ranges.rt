@@ -56,7 +56,7 @@ fn suits_a_table(lists: &[&[u64]], many: usize) -> bool
 }
 
 /// The least key of a list, and the number after the greatest one, or these where they go further.
-fn widened(keys: &[u64], least: u64, past: u64, from: u64, to: u64) -> (u64, u64)
+fn widen(keys: &[u64], least: u64, past: u64, from: u64, to: u64) -> (u64, u64)
     requires all { All (λ k. (from ≤ k) × (k < to)) keys.now }
     requires from { from ≤ least }
     requires to { past ≤ to }
@@ -87,7 +87,7 @@ fn extent(lists: &[&[u64]], from: u64, to: u64) -> (u64, u64)
     let mut least = to;
     let mut past = from;
     for keys in lists {
-        (least, past) = widened(keys, least, past, from, to);
+        (least, past) = widen(keys, least, past, from, to);
     }
     (least, past)
 }
@@ -203,7 +203,7 @@ fn of_lists(
 /// The numbers that come of the lists, each once, in rising order. The lists may be of any length,
 /// with repeats, in any order. `AllocError` comes only for want of memory: beside the answer it
 /// takes some 8 bytes a key for parts of the lists, at each of a few levels.
-pub fn combined(alloc: Global, how: How, lists: &[&[u64]]) -> Result<Vec<u64>, AllocError>
+pub fn combine(alloc: Global, how: How, lists: &[&[u64]]) -> Result<Vec<u64>, AllocError>
     requires { All (λ l. All IsKey l.now) lists.now }
     ensures { IfOk result (λ v. v.items ≡ answer how (map (λ l. l.now) lists.now)) }
 {

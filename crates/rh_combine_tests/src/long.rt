@@ -32,10 +32,10 @@ fn multiples_of_two_and_of_three(rt: HostRuntime) -> Result<(), Fail> {
         (How::Subtract, 66_666),
         (How::Xor, 133_332),
     ] {
-        let found = combined(rt.alloc(), how, &[&two, &three])?;
+        let found = combine(rt.alloc(), how, &[&two, &three])?;
         assert_eq!(rt; found.len(), many, "{how:?}");
     }
-    let both = combined(rt.alloc(), How::Intersect, &[&two, &three])?;
+    let both = combine(rt.alloc(), How::Intersect, &[&two, &three])?;
     for (i, number) in both.iter().enumerate() {
         assert_eq!(rt; *number, 6 * i as u64);
     }
@@ -64,11 +64,11 @@ fn numbers_of_one_home(rt: HostRuntime) -> Result<(), Fail> {
     let list = of_one_home(rt.alloc())?;
     assert!(rt; list.len() > 20_000, "a table would take them");
     for how in [How::Intersect, How::Union] {
-        let found = combined(rt.alloc(), how, &[&list, &list])?;
+        let found = combine(rt.alloc(), how, &[&list, &list])?;
         assert_eq!(rt; found.len(), list.len(), "{how:?}");
     }
     for how in [How::Subtract, How::Xor] {
-        let found = combined(rt.alloc(), how, &[&list, &list])?;
+        let found = combine(rt.alloc(), how, &[&list, &list])?;
         assert_eq!(rt; found.len(), 0, "{how:?}");
     }
     Ok(())

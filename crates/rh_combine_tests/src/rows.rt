@@ -12,7 +12,7 @@ const ROWS: [(How, &[u64]); 4] = [
 #[test]
 fn three_lists(rt: HostRuntime) -> Result<(), Fail> {
     for (how, wanted) in ROWS {
-        let found = combined(rt.alloc(), how, &[&[1, 9], &[9, 9, 4], &[4, 17]])?;
+        let found = combine(rt.alloc(), how, &[&[1, 9], &[9, 9, 4], &[4, 17]])?;
         assert_eq!(rt; found.as_slice(), wanted, "{how:?}");
     }
     Ok(())
@@ -22,10 +22,10 @@ fn three_lists(rt: HostRuntime) -> Result<(), Fail> {
 fn one_list_and_none(rt: HostRuntime) -> Result<(), Fail> {
     for (how, _) in ROWS {
         assert_eq!(rt;
-            combined(rt.alloc(), how, &[&[9, 1, 9]])?.as_slice(),
+            combine(rt.alloc(), how, &[&[9, 1, 9]])?.as_slice(),
             [1, 9].as_slice()
         );
-        assert_eq!(rt; combined(rt.alloc(), how, &[])?.as_slice(), [].as_slice());
+        assert_eq!(rt; combine(rt.alloc(), how, &[])?.as_slice(), [].as_slice());
     }
     Ok(())
 }

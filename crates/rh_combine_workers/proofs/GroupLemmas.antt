@@ -20,7 +20,7 @@ use Rattle.rh_borders.specs.declared.whole.CutLists.{CutLists}
 use Rattle.rh_combine_workers.specs.declared.wanted.Wanted.{Wanted}
 use Rattle.rh_borders.specs.Borders.{AreBorders, between}
 use Rattle.rh_borders.specs.Cut.{AreLists}
-use Rattle.rh_combine_workers.specs.Groups.{IsGroup, TellsGroup, TellsShare, edge, parts_of}
+use Rattle.rh_combine_workers.specs.Groups.{IsGroup, TellsGroup, TellsShare, group_edge, parts_of}
 use Rattle.rh_combine_workers.specs.Spelled.{spelled, spelling_of}
 use Rattle.rh_borders.proofs.BorderLemmas.{rise_to}
 use Rattle.rh_borders.proofs.CutLemmas.{as_many, told_one}
@@ -77,22 +77,22 @@ module _ (how : How) (lists : List (List ℕ)) where
 
 -- ---- the edges of groups
 
-pub edge-first : (first size parts : ℕ) → first ≤ parts → edge first 0 size parts ≡ first
+pub edge-first : (first size parts : ℕ) → first ≤ parts → group_edge first 0 size parts ≡ first
 edge-first first size parts inside = omega (arith, inside)
 
-pub edge-inside : (first i size parts : ℕ) → edge first i size parts ≤ parts
+pub edge-inside : (first i size parts : ℕ) → group_edge first i size parts ≤ parts
 edge-inside first i size parts = omega arith
 
-pub edge-rises : (first i size parts : ℕ) → edge first i size parts ≤ edge first (i + 1) size parts
+pub edge-rises : (first i size parts : ℕ) → group_edge first i size parts ≤ group_edge first (i + 1) size parts
 edge-rises first i size parts = omega (arith, add-mul i 1 size)
 
 module _ (cut : CutLists) (are : AreBorders cut.borders.values.items) (first size : ℕ) where
   abbrev border_at : ℕ → ℕ
-  border_at i = slice_index cut.borders.values.items (edge first i size (parts_of cut))
+  border_at i = slice_index cut.borders.values.items (group_edge first i size (parts_of cut))
 
   pub border-rises : (i : ℕ) → border_at i ≤ border_at (i + 1)
   border-rises i =
-      rise_to cut.borders.values.items are (edge first i size (parts_of cut)) (edge first (i + 1) size (parts_of cut)) (edge-rises first i size (parts_of cut)) (omega (arith, edge-inside first (i + 1) size (parts_of cut), are.some))
+      rise_to cut.borders.values.items are (group_edge first i size (parts_of cut)) (group_edge first (i + 1) size (parts_of cut)) (edge-rises first i size (parts_of cut)) (omega (arith, edge-inside first (i + 1) size (parts_of cut), are.some))
 
 -- ---- a round of groups
 
@@ -101,23 +101,23 @@ module _ {E : Type 0} (wanted : Wanted) (cut : CutLists) (lists : List (List ℕ
   so_many : length done ≡ n
   so_many = as_many done told is ∙ many
 
-  group_is : (i : ℕ) (d : Group) → i < length done → IsGroup wanted cut.borders.values.items (edge first i size (parts_of cut)) (edge first (i + 1) size (parts_of cut)) lists (get_or done i d)
+  group_is : (i : ℕ) (d : Group) → i < length done → IsGroup wanted cut.borders.values.items (group_edge first i size (parts_of cut)) (group_edge first (i + 1) size (parts_of cut)) lists (get_or done i d)
   group_is i d here =
-      told_one (IsGroup wanted cut.borders.values.items (edge first i size (parts_of cut)) (edge first (i + 1) size (parts_of cut)) lists) done told i d is here
+      told_one (IsGroup wanted cut.borders.values.items (group_edge first i size (parts_of cut)) (group_edge first (i + 1) size (parts_of cut)) lists) done told i d is here
       ((each i (Ok d) (omega (arith, here, so_many))).is lists are)
 
-  begins : edge first 0 size (parts_of cut) ≡ first
+  begins : group_edge first 0 size (parts_of cut) ≡ first
   begins = edge-first first size (parts_of cut) (omega (arith, inside))
 
-  pub round_bytes : flat_map (λ g. g.bytes.items) done ≡ spelled wanted.form (between cut.borders.values.items first (edge first n size (parts_of cut)) (answer wanted.how lists))
+  pub round_bytes : flat_map (λ g. g.bytes.items) done ≡ spelled wanted.form (between cut.borders.values.items first (group_edge first n size (parts_of cut)) (answer wanted.how lists))
   round_bytes =
       all_told wanted.how lists (λ (g : Group). g.bytes.items) (spelled wanted.form) refl (flat_map-append (spelling_of wanted.form)) done (border_at cut are.borders first size) (λ i _. border-rises cut are.borders first size i) (λ i d here. (group_is i d here).bytes)
-      ∙ (λ j. spelled wanted.form (between cut.borders.values.items (begins j) (edge first (so_many j) size (parts_of cut)) (answer wanted.how lists)))
+      ∙ (λ j. spelled wanted.form (between cut.borders.values.items (begins j) (group_edge first (so_many j) size (parts_of cut)) (answer wanted.how lists)))
 
-  pub round_count : sum_by (λ g. g.count) done ≡ length (between cut.borders.values.items first (edge first n size (parts_of cut)) (answer wanted.how lists))
+  pub round_count : sum_by (λ g. g.count) done ≡ length (between cut.borders.values.items first (group_edge first n size (parts_of cut)) (answer wanted.how lists))
   round_count =
       all_counts wanted.how lists (λ (g : Group). g.count) done (border_at cut are.borders first size) (λ i _. border-rises cut are.borders first size i) (λ i d here. (group_is i d here).count)
-      ∙ (λ j. length (between cut.borders.values.items (begins j) (edge first (so_many j) size (parts_of cut)) (answer wanted.how lists)))
+      ∙ (λ j. length (between cut.borders.values.items (begins j) (group_edge first (so_many j) size (parts_of cut)) (answer wanted.how lists)))
 
 -- ---- the shares of all workers
 
@@ -126,11 +126,11 @@ module _ {V E : Type 0} (items : V → List ℕ) (how : How) (cut : CutLists) (l
   pub all_shares : flat_map items done ≡ between cut.borders.values.items 0 (parts_of cut) (answer how lists)
   all_shares =
       let so_many : length done ≡ n = as_many done told is ∙ many in
-      let begins : edge 0 0 size (parts_of cut) ≡ 0 = edge-first 0 size (parts_of cut) (omega arith) in
-      let ends : edge 0 n size (parts_of cut) ≡ parts_of cut = omega (arith, enough) in
+      let begins : group_edge 0 0 size (parts_of cut) ≡ 0 = edge-first 0 size (parts_of cut) (omega arith) in
+      let ends : group_edge 0 n size (parts_of cut) ≡ parts_of cut = omega (arith, enough) in
       all_told how lists items (λ l. l) refl (λ _ _. refl) done (border_at cut are.borders 0 size) (λ i _. border-rises cut are.borders 0 size i)
-      (λ i d here. told_one (λ v. items v ≡ between cut.borders.values.items (edge 0 i size (parts_of cut)) (edge 0 (i + 1) size (parts_of cut)) (answer how lists)) done told i d is here ((each i (Ok d) (omega (arith, here, so_many))).is lists are))
-      ∙ ap (λ m. between cut.borders.values.items (edge 0 0 size (parts_of cut)) (edge 0 m size (parts_of cut)) (answer how lists)) so_many
+      (λ i d here. told_one (λ v. items v ≡ between cut.borders.values.items (group_edge 0 i size (parts_of cut)) (group_edge 0 (i + 1) size (parts_of cut)) (answer how lists)) done told i d is here ((each i (Ok d) (omega (arith, here, so_many))).is lists are))
+      ∙ ap (λ m. between cut.borders.values.items (group_edge 0 0 size (parts_of cut)) (group_edge 0 m size (parts_of cut)) (answer how lists)) so_many
       ∙ (λ j. between cut.borders.values.items (begins j) (ends j) (answer how lists))
 
 -- ---- all parts

@@ -10,8 +10,8 @@ use Rattle.rh_borders.specs.Cut.{AreLists}
 use Rattle.rh_combine_workers.specs.Spelled.{spelled}
 
 -- the part with which a group begins, and the group before it ends: groups of so many parts from the first one on, of so many in all
-abbrev pub edge : (first number size parts : ℕ) → ℕ
-edge first number size parts = min (first + number * size) parts
+abbrev pub group_edge : (first number size parts : ℕ) → ℕ
+group_edge first number size parts = min (first + number * size) parts
 
 -- what came of the parts from p up to before q
 pub record IsGroup (wanted : Wanted) (borders : List ℕ) (p q : ℕ) (lists : List (List ℕ)) (group : Group) : Type 0 where
@@ -24,8 +24,8 @@ parts_of cut = length cut.borders.values.items - 1
 
 -- what a worker tells of a group: of whatever lists were cut, unless memory ran out
 pub record TellsGroup {E : Type 0} (wanted : Wanted) (cut : CutLists) (first size number : ℕ) (told : Result Group E) : Type 0 where
-  pub is : (lists : List (List ℕ)) → AreLists cut lists → IfOk told (IsGroup wanted cut.borders.values.items (edge first number size (parts_of cut)) (edge first (number + 1) size (parts_of cut)) lists)
+  pub is : (lists : List (List ℕ)) → AreLists cut lists → IfOk told (IsGroup wanted cut.borders.values.items (group_edge first number size (parts_of cut)) (group_edge first (number + 1) size (parts_of cut)) lists)
 
 -- what a worker tells of its share, as a list
 pub record TellsShare {V E : Type 0} (items : V → List ℕ) (how : How) (cut : CutLists) (size number : ℕ) (told : Result V E) : Type 0 where
-  pub is : (lists : List (List ℕ)) → AreLists cut lists → IfOk told (λ v. items v ≡ between cut.borders.values.items (edge 0 number size (parts_of cut)) (edge 0 (number + 1) size (parts_of cut)) (answer how lists))
+  pub is : (lists : List (List ℕ)) → AreLists cut lists → IfOk told (λ v. items v ≡ between cut.borders.values.items (group_edge 0 number size (parts_of cut)) (group_edge 0 (number + 1) size (parts_of cut)) (answer how lists))

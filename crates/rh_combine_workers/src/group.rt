@@ -1,7 +1,7 @@
 //! Groups of consecutive parts, worked out side by side.
 
 ghost use Rattle.std.specs.Prelude.{◌≡◌, ℕ, List, ◌+◌, ◌-◌, ◌^◌, ◌<◌, ◌≤◌, IfOk, Ok, length, map, min, slice_index_or, sum_by};
-ghost use Rattle.rh_combine_workers.specs.Groups.{TellsGroup, edge};
+ghost use Rattle.rh_combine_workers.specs.Groups.{TellsGroup, group_edge};
 
 use crate::form::spell;
 use crate::part::of_parts;
@@ -20,7 +20,7 @@ pub(crate) struct Group {
 
 /// The part with which a group begins, and the group before it ends.
 pub(crate) fn edge(first: usize, number: usize, size: usize, parts: usize) -> usize
-    ensures { result ≡ edge first number size parts }
+    ensures { result ≡ group_edge first number size parts }
 {
     number.saturating_mul(size).saturating_add(first).min(parts)
 }

@@ -70,7 +70,7 @@ fn all_done(
 }
 
 /// One share after the other.
-fn joined(alloc: Global, shares: &[Vec<u64>]) -> Result<Vec<u64>, AllocError>
+fn join_shares(alloc: Global, shares: &[Vec<u64>]) -> Result<Vec<u64>, AllocError>
     ensures { IfOk result (λ v. v.items ≡ flat_map (λ k. k.items) shares.now) }
 {
     let mut all = Vec::new(alloc);
@@ -95,5 +95,5 @@ pub fn combine<T: Threads + Sync>(
     let size = cut.parts().div_ceil(team.workers.count);
     let told = shares(team, how, &cut, size)?;
     let shares = all_done(team.alloc, told)?;
-    joined(team.alloc, &shares)
+    join_shares(team.alloc, &shares)
 }

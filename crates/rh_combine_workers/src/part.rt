@@ -6,7 +6,7 @@ ghost use Rattle.rh_borders.specs.Borders.{between, part_of};
 ghost use Rattle.rh_borders.specs.Cut.{AreLists};
 
 use rh_borders::{CutLists, Parts};
-use rh_combine::{How, combined};
+use rh_combine::{How, combine};
 use std::alloc::{AllocError, Global};
 
 /// How many keys of a list stand in a part. So much room is taken for them at once; no more depends
@@ -22,7 +22,7 @@ fn count(pieces: &[Parts], part: usize) -> usize
 }
 
 /// The keys of a list that stand in a part.
-fn gathered(alloc: Global, pieces: &[Parts], part: usize) -> Result<Vec<u64>, AllocError>
+fn gather(alloc: Global, pieces: &[Parts], part: usize) -> Result<Vec<u64>, AllocError>
     requires { All (λ parts. part < length parts) pieces.now }
     ensures { IfOk result (λ v. v.items ≡ part_of pieces.now part) }
 {
@@ -45,7 +45,7 @@ fn all_gathered(
 {
     let mut all = Vec::with_capacity(alloc, lists.len())?;
     for pieces in lists {
-        all.push(gathered(alloc, pieces, part)?)?;
+        all.push(gather(alloc, pieces, part)?)?;
     }
     Ok(all)
 }
@@ -69,7 +69,7 @@ fn of_part(alloc: Global, how: How, cut: &CutLists, part: usize) -> Result<Vec<u
 {
     let mine = all_gathered(alloc, &cut.lists, part)?;
     let slices = slices_of(alloc, &mine)?;
-    let found = combined(alloc, how, &slices)?;
+    let found = combine(alloc, how, &slices)?;
     Ok(found)
 }
 

@@ -4,7 +4,7 @@ ghost use Rattle.std.specs.Prelude.{◌<◌, length, map};
 ghost use Rattle.std.specs.List.{flat_map};
 ghost use Rattle.rh_bytes.specs.Counting.{Emits};
 ghost use Rattle.rh_pieces.specs.Pieces.{keys_in};
-ghost use Rattle.rh_combine_workers.specs.Groups.{edge, parts_of};
+ghost use Rattle.rh_combine_workers.specs.Groups.{group_edge, parts_of};
 ghost use Rattle.rh_combine_workers.specs.Written.{WritesCombined, WritesParts};
 
 use crate::fault::CombineFault;
@@ -53,7 +53,8 @@ fn round<T: Threads + Sync, W: Write>(
 ) -> Result<u64, CombineFault>
     requires { first < length cut.now.borders.values.items }
     ensures { WritesParts W.contents wanted cut.now first
-        (edge first team.now.workers.count size (parts_of cut.now)) writer.old writer.new result }
+        (group_edge first team.now.workers.count size (parts_of cut.now)) writer.old writer.new
+        result }
 {
     let told = groups(team, wanted, cut, first, size)?;
     let done = all_done(team.alloc, told)?;

@@ -2,7 +2,7 @@
 
 ghost use Rattle.std.specs.Prelude.{◌≡◌, IsErrOf};
 ghost use Rattle.rh_bytes.specs.Counting.{Counts, WritesLast, inner_of};
-ghost use Rattle.rh_key_files.specs.Limits.{NoReadFailed, TakesOfFile};
+ghost use Rattle.rh_key_files.specs.Limits.{NoKeyReadFailed, TakesOfFile};
 ghost use Rattle.rh_commands.specs.Dump.{Dumps, dump_fault_in};
 
 use rh_bytes::{Counted, WriteFault};
@@ -80,7 +80,7 @@ pub fn dump_keys<R: Read, W: Write>(
     ensures takes { TakesOfFile (R.remaining (inner_of reader.old))
         (R.remaining (inner_of reader.new)) (dump_fault_in result) }
     ensures counts { Counts (IsErrOf result (DumpFault.Keys KeyFault.Read))
-        (NoReadFailed (dump_fault_in result)) reader.old reader.new }
+        (NoKeyReadFailed (dump_fault_in result)) reader.old reader.new }
     ensures writes { WritesLast DumpFault.Write writer.old writer.new result }
 {
     let keys = read_keys(alloc, reader)?;

@@ -5,7 +5,7 @@ use Rattle.std.proofs.lemmas.Grind.{common_steps, flat_map-append}
 use Rattle.std.proofs.lemmas.Bool.Decides.{nat_tests}
 use Rattle.std.proofs.lemmas.List.{take_more}
 use Rattle.rh_words.specs.declared.shape.Shape.{Shape}
-use Rattle.rh_play.specs.Appending.{Prints}
+use Rattle.rh_play_text.specs.Appending.{Prints}
 use Rattle.rh_svg.specs.Markup.{Content, Nothing, Text, Element, DrawsAfter, IsWellFormed, beside, labelled, leaf, render}
 use Rattle.rh_svg.specs.Tags.{start_tag, end_tag}
 use Rattle.rh_svg.specs.declared.tags.Tag.{Tag}
@@ -16,7 +16,7 @@ use Rattle.rh_draw.specs.Heads.{column_head, head_row, repeated, title_lines}
 use Rattle.rh_draw.specs.Notices.{AreTold, notice}
 use Rattle.rh_draw.specs.Picture.{IsPicture, legend_lines, legend_marks}
 use Rattle.rh_draw.specs.Places.{lane_x}
-use Rattle.rh_draw.specs.Reading.{Draws, Shows, head, is_head, line, mark, read}
+use Rattle.rh_draw.specs.Reading.{Draws, ShowsTags, head, is_head, line, mark, read}
 use Rattle.rh_draw.specs.Rows.{at_after, at_first, mark_of, record_lines, row_lines}
 use Rattle.rh_draw.specs.declared.records.Record.{Record}
 use Rattle.rh_draw.specs.declared.records.Window.{Window}
@@ -54,7 +54,7 @@ read-beside one (Element tag inside after) second =
 
 -- ---- one after the other
 
-pub nothing : (text : List ℕ) → Shows text text [] [] []
+pub nothing : (text : List ℕ) → ShowsTags text text [] [] []
 nothing text = record {
   content = Nothing;
   text = rw (render-nothing, append-nil) refl;
@@ -63,7 +63,7 @@ nothing text = record {
   heads_are = refl;
 }
 
-pub both : {a b c : List ℕ} {m l n k : List Tag} {h i : List (List ℕ)} → Shows a b m l h → Shows b c n k i → Shows a c (m ++ n) (l ++ k) (h ++ i)
+pub both : {a b c : List ℕ} {m l n k : List Tag} {h i : List (List ℕ)} → ShowsTags a b m l h → ShowsTags b c n k i → ShowsTags a c (m ++ n) (l ++ k) (h ++ i)
 both {a = a} p q = record {
   content = beside p.content q.content;
   text = rw (q.text, p.text, render-beside p.content q.content) (append_assoc a (render p.content) (render q.content));
@@ -74,7 +74,7 @@ both {a = a} p q = record {
 
 -- and last what is the answer
 pub both_ok : {X E : Type 0} {a b : List ℕ} {m l : List Tag} {h : List (List ℕ)} (c : List ℕ) (n k : List Tag) (i : List (List ℕ)) (r : Result X E) →
-    Shows a b m l h → Draws b c n k i r → Draws a c (m ++ n) (l ++ k) (h ++ i) r
+    ShowsTags a b m l h → Draws b c n k i r → Draws a c (m ++ n) (l ++ k) (h ++ i) r
 both_ok c n k i (Ok x) p q = both p q
 both_ok c n k i (Err e) p q = tt
 
@@ -86,7 +86,7 @@ one_element : {X : Type 0} → (one : Tag → Content → List X) (tag : Tag) (i
 one_element one tag inside none = rw (none, append-nil) refl
 
 pub shown : {a b : List ℕ} (tag : Tag) (inside : Content) → read mark inside ≡ [] → read line inside ≡ [] → read head inside ≡ [] →
-    b ≡ a ++ render (Element tag inside Nothing) → Shows a b (mark tag inside) (line tag inside) (head tag inside)
+    b ≡ a ++ render (Element tag inside Nothing) → ShowsTags a b (mark tag inside) (line tag inside) (head tag inside)
 shown tag inside no_mark no_line no_head text = record {
   content = Element tag inside Nothing;
   text = text;
@@ -100,12 +100,12 @@ headless : (test : Bool) → ◌≡◌ {A = List (List ℕ)} (if test then [] el
 headless true = refl
 headless false = refl
 
-pub a_leaf : {a b : List ℕ} (tag : Tag) → b ≡ a ++ render (leaf tag) → Shows a b (mark tag Nothing) (line tag Nothing) []
+pub a_leaf : {a b : List ℕ} (tag : Tag) → b ≡ a ++ render (leaf tag) → ShowsTags a b (mark tag Nothing) (line tag Nothing) []
 a_leaf (Label x y look) text = rw (headless (is_head look)) at (shown (Label x y look) Nothing refl refl refl text)
 a_leaf tag text = shown tag Nothing refl refl refl text
 
 pub a_label : {a b : List ℕ} (tag : Tag) (words : List ℕ) → b ≡ a ++ render (labelled tag words) →
-    Shows a b (mark tag (Text words Nothing)) (line tag (Text words Nothing)) (head tag (Text words Nothing))
+    ShowsTags a b (mark tag (Text words Nothing)) (line tag (Text words Nothing)) (head tag (Text words Nothing))
 a_label tag words text = shown tag (Text words Nothing) refl refl refl text
 
 pub element_ok : {X E : Type 0} (a b : List ℕ) (tag : Tag) (inside : Content) (r : Result X E) →
@@ -139,17 +139,17 @@ one_more f xs i d lt = rw (take_more xs i d lt, flat_map-append) (ap (λ (ys : L
 
 -- one more of a list was drawn
 pub more : {X : Type 0} {a b c : List ℕ} (f g : X → List Tag) (xs : List X) (i : ℕ) (d : X) → i < length xs →
-    Shows a b (flat_map f (take i xs)) (flat_map g (take i xs)) [] → Shows b c (f (get_or xs i d)) (g (get_or xs i d)) [] →
-    Shows a c (flat_map f (take (i + 1) xs)) (flat_map g (take (i + 1) xs)) []
+    ShowsTags a b (flat_map f (take i xs)) (flat_map g (take i xs)) [] → ShowsTags b c (f (get_or xs i d)) (g (get_or xs i d)) [] →
+    ShowsTags a c (flat_map f (take (i + 1) xs)) (flat_map g (take (i + 1) xs)) []
 more f g xs i d lt before here = rw (one_more f xs i d lt, one_more g xs i d lt) (both before here)
 
 pub all_of : {X Y : Type 0} → (f : X → List Y) (xs : List X) (i : ℕ) → length xs ≤ i → flat_map f (take i xs) ≡ flat_map f xs
 all_of f xs i past = let all : take i xs ≡ xs = grind (arith, common_steps) in rw all refl
 
 pub one_title : {a b c : List ℕ} (title : List (Vec ℕ Global)) (i : ℕ) (line : Vec ℕ Global) → i < length title → line ≡ get_or title i line →
-    Shows a b [] [] (title_lines (take i title)) → Shows b c [] [] (line.items ∷ []) → Shows a c [] [] (title_lines (take (i + 1) title))
+    ShowsTags a b [] [] (title_lines (take i title)) → ShowsTags b c [] [] (line.items ∷ []) → ShowsTags a c [] [] (title_lines (take (i + 1) title))
 one_title {b = b} {c = c} title i line lt is before here =
-    rw (one_more (λ one. one.items ∷ []) title i line lt) (both before (subst (λ (one : Vec ℕ Global). Shows b c [] [] (one.items ∷ [])) is here))
+    rw (one_more (λ one. one.items ∷ []) title i line lt) (both before (subst (λ (one : Vec ℕ Global). ShowsTags b c [] [] (one.items ∷ [])) is here))
 
 -- ---- the rows of records
 
@@ -161,11 +161,11 @@ none_alone P not (Some owner) p = absurd (not owner p)
 -- Those of the first records were drawn: with what the others have, it is all that they have.
 abbrev pub RowsDrawn : Window → (workers : ℕ) → (given : List Record) → (whole : List Tag) → (i : ℕ) → (whose : List (Option ℕ)) → (a b : List ℕ) → Type 0
 RowsDrawn window workers given whole i whose a b =
-    (done : List Tag) × Shows a b (flat_map (mark_of window) (take i given)) done [] × (done ++ row_lines window workers whose (drop i given) ≡ whole)
+    (done : List Tag) × ShowsTags a b (flat_map (mark_of window) (take i given)) done [] × (done ++ row_lines window workers whose (drop i given) ≡ whole)
 
 pub one_row : {a b c : List ℕ} (window : Window) (workers : ℕ) (given : List Record) (i : ℕ) (d : Record) (whose next : List (Option ℕ))
     (whole : List Tag) → i < length given → next ≡ at_after whose (get_or given i d) → RowsDrawn window workers given whole i whose a b →
-    Shows b c (mark_of window (get_or given i d)) (record_lines window workers next (get_or given i d)) [] →
+    ShowsTags b c (mark_of window (get_or given i d)) (record_lines window workers next (get_or given i d)) [] →
     RowsDrawn window workers given whole (i + 1) next a c
 one_row window workers given i d whose next whole lt goes before here = (
   before.0 ++ record_lines window workers next (get_or given i d),
@@ -174,7 +174,7 @@ one_row window workers given i d whose next whole lt goes before here = (
 )
 
 pub all_rows : {a b : List ℕ} (window : Window) (workers : ℕ) (given : List Record) (i : ℕ) (whose : List (Option ℕ)) (whole : List Tag) →
-    length given ≤ i → RowsDrawn window workers given whole i whose a b → Shows a b (flat_map (mark_of window) given) whole []
+    length given ≤ i → RowsDrawn window workers given whole i whose a b → ShowsTags a b (flat_map (mark_of window) given) whole []
 all_rows window workers given i whose whole past before =
     let none : drop i given ≡ [] = grind (arith, common_steps) in
     let same : before.0 ≡ whole = rw (none, append-nil) at before.2 in
@@ -200,15 +200,15 @@ module _ (z : Shape) (window : Window) (right : ℕ) (Told : List Tag → Type 0
 
 -- ---- the whole
 
-pub framed : {a b c d : List ℕ} {m l n k : List Tag} {h i : List (List ℕ)} → Shows a b m l h → Shows b c [] [] [] → Shows c d n k i →
-    Shows a d (m ++ n) (l ++ k) (h ++ i)
+pub framed : {a b c d : List ℕ} {m l n k : List Tag} {h i : List (List ℕ)} → ShowsTags a b m l h → ShowsTags b c [] [] [] → ShowsTags c d n k i →
+    ShowsTags a d (m ++ n) (l ++ k) (h ++ i)
 framed frame boxes more = both (simp append-nil at (both frame boxes)) more
 
 pub a_picture : (title : List (Vec ℕ Global)) (z there : Shape) (cells : List ℕ) (given : List Record) (window here : Window) (flags : List ℕ)
     (right times width height : ℕ) (a b c d : List ℕ) (told : List Tag) → there ≡ z → here ≡ window → length flags ≡ length cells →
     ColumnsAreChanges z cells given window flags → lane_x z.workers ≤ right → a ≡ [] → b ≡ a ++ start_tag (Svg width height) →
     AreTold there here right (opening there cells) given told →
-    Shows b c (legend_marks ++ flat_map (mark_of here) given) (legend_lines ++ (told ++ row_lines here there.workers (at_first there.workers) given))
+    ShowsTags b c (legend_marks ++ flat_map (mark_of here) given) (legend_lines ++ (told ++ row_lines here there.workers (at_first there.workers) given))
     (title_lines title ++ repeated (head_row there.workers flags) (times + 1)) → d ≡ c ++ end_tag (Svg width height) → IsPicture title z cells given window d
 a_picture title z there cells given window here flags right times width height a b c d told same_shape same_window long columns wide empty opened are_told shows closed =
     let tag : Tag = Svg width height in

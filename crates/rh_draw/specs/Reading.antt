@@ -50,7 +50,7 @@ abbrev pub heads : Content → List (List ℕ)
 heads content = read head content
 
 -- What was appended is the text of a content with these marks, lines and heads, in this order, and with no others.
-pub record Shows (old new : List ℕ) (m l : List Tag) (h : List (List ℕ)) : Type 0 where
+pub record ShowsTags (old new : List ℕ) (m l : List Tag) (h : List (List ℕ)) : Type 0 where
   pub content : Content
   pub text : new ≡ old ++ render content
   pub marks_are : marks content ≡ m
@@ -58,7 +58,7 @@ pub record Shows (old new : List ℕ) (m l : List Tag) (h : List (List ℕ)) : T
   pub heads_are : heads content ≡ h
 
 abbrev pub Draws : {X E : Type 0} → (old new : List ℕ) → (m l : List Tag) → (h : List (List ℕ)) → Result X E → Type 0
-Draws old new m l h r = OnOk r (Shows old new m l h)
+Draws old new m l h r = OnOk r (ShowsTags old new m l h)
 
 -- boxes, labels and signs alone
 abbrev pub DrawsPlain : {X E : Type 0} → (old new : List ℕ) → Result X E → Type 0

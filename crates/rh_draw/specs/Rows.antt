@@ -80,8 +80,8 @@ help_line worker y None = []
 help_line worker y (Some other) = tags.Line (lane_x worker) y (lane_x other) y (looks.Help other) ∷ []
 
 -- the line across all lanes at which a round begins, between two steps
-abbrev pub round_line : (workers moment : ℕ) → Tag
-round_line workers moment = tags.Line ROUNDS (moment_y moment + ROW / 2) (lane_x workers) (moment_y moment + ROW / 2) looks.Round
+abbrev pub round_mark : (workers moment : ℕ) → Tag
+round_mark workers moment = tags.Line ROUNDS (moment_y moment + ROW / 2) (lane_x workers) (moment_y moment + ROW / 2) looks.Round
 
 -- of a step of the window its mark: in the lane of its worker, at the height of its number
 abbrev pub mark_of : Window → Record → List Tag
@@ -94,7 +94,7 @@ mark_of window (Step step) =
 -- of such a step about another worker's descriptor or mark the line to the lane of that worker; of a round its line
 -- Step 31 of examples/helping.play, a Decide of worker 1 at the control of worker 0, has a star in lane 1 and a line to lane 0.
 abbrev pub record_lines : Window → (workers : ℕ) → (whose : List (Option ℕ)) → Record → List Tag
-record_lines window workers whose (Round next) = if is_before window next then round_line workers (next - window.from) ∷ [] else []
+record_lines window workers whose (Round next) = if is_before window next then round_mark workers (next - window.from) ∷ [] else []
 record_lines window workers whose (Step step) =
     if is_drawn window step.number
     then help_line step.worker (moment_y (moment_of window step.number)) (helped whose step)

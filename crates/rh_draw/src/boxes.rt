@@ -7,7 +7,7 @@ use crate::canvas::Canvas;
 use crate::limits::{GAP, HEAD_STEPS, INDENT, TEXT};
 use crate::lists::at;
 use crate::places::{head_y, moment_y};
-use crate::sight::View;
+use crate::sight::PictureLayout;
 use crate::spans::Span;
 use rh_svg::{Look, Tag, leaf};
 use rh_tagword::{Word, unpack};
@@ -24,7 +24,11 @@ fn look_of(word: u64) -> Look {
 }
 
 /// The boxes of these spans, with their words.
-pub(crate) fn draw_boxes(canvas: &mut Canvas, view: &View, spans: &[Span]) -> Result<(), AllocError>
+pub(crate) fn draw_boxes(
+    canvas: &mut Canvas,
+    view: &PictureLayout,
+    spans: &[Span],
+) -> Result<(), AllocError>
     ensures { DrawsPlain canvas.old.out.items canvas.new.out.items result }
 {
     for span in spans {
@@ -34,7 +38,7 @@ pub(crate) fn draw_boxes(canvas: &mut Canvas, view: &View, spans: &[Span]) -> Re
     Ok(())
 }
 
-fn draw_box(canvas: &mut Canvas, view: &View, span: Span) -> Result<(), AllocError>
+fn draw_box(canvas: &mut Canvas, view: &PictureLayout, span: Span) -> Result<(), AllocError>
     ensures { DrawsPlain canvas.old.out.items canvas.new.out.items result }
 {
     let x = at(&view.sides, span.cell);
@@ -79,7 +83,7 @@ fn draw_value(canvas: &mut Canvas, x: u64, y: u64, span: Span) -> Result<(), All
 }
 
 // They stand again below each head of the column that the box reaches.
-fn draw_again(canvas: &mut Canvas, view: &View, span: Span) -> Result<(), AllocError>
+fn draw_again(canvas: &mut Canvas, view: &PictureLayout, span: Span) -> Result<(), AllocError>
     ensures { DrawsPlain canvas.old.out.items canvas.new.out.items result }
 {
     let x = at(&view.sides, span.cell);

@@ -6,8 +6,8 @@ ghost use Rattle.rh_trace.specs.Telling.{held_text, step_text};
 ghost use Rattle.rh_tagword.specs.Word.{word_in};
 
 use itoa::Buffer;
-use rh_play::push_texts;
-use rh_svg::{Tag, labelled};
+use rh_play_text::push_texts;
+use rh_svg::{Tag, put_text};
 use rh_trace::{Traced, push_step_text, push_word};
 use rh_words::Part;
 use std::alloc::{AllocError, Global};
@@ -37,7 +37,7 @@ impl Canvas {
         let number = buffer.format(number).as_bytes();
         self.line.clear();
         push_texts(&mut self.line, &[word, number])?;
-        labelled(&mut self.out, tag, &self.line)
+        put_text(&mut self.out, tag, &self.line)
     }
 
     /// An element that holds what a cell's word says.
@@ -47,7 +47,7 @@ impl Canvas {
     {
         self.line.clear();
         push_word(&mut self.line, Part::Cell(0), word)?;
-        labelled(&mut self.out, tag, &self.line)
+        put_text(&mut self.out, tag, &self.line)
     }
 
     /// An element that holds the text of a step.
@@ -57,6 +57,6 @@ impl Canvas {
     {
         self.line.clear();
         push_step_text(&mut self.line, step)?;
-        labelled(&mut self.out, tag, &self.line)
+        put_text(&mut self.out, tag, &self.line)
     }
 }

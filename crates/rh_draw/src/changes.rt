@@ -12,7 +12,7 @@ use rh_words::{Part, Shape};
 use std::alloc::AllocError;
 
 /// What a step decided a descriptor to, if it did.
-pub(crate) fn decided(touched: Touched) -> Option<State>
+pub(crate) fn decision(touched: Touched) -> Option<State>
     ensures { result ≡ decided touched }
 {
     let Part::Control { .. } = touched.part else {
@@ -36,7 +36,7 @@ fn outcome(found: State, left: State) -> Option<State>
 pub(crate) fn is_act(touched: Touched) -> bool
     ensures { result ≡ is_act touched }
 {
-    matches!(decided(touched), Some(State::Succeeded))
+    matches!(decision(touched), Some(State::Succeeded))
 }
 
 /// How many entries a worker's row has; none where the table has no such worker.

@@ -10,7 +10,7 @@ ghost use Rattle.rh_draw.specs.Heads.{head_row, repeated};
 ghost use Rattle.rh_draw.specs.Notices.{AreTold};
 ghost use Rattle.rh_draw.specs.Picture.{IsPicture};
 ghost use Rattle.rh_draw.specs.Places.{lane_x};
-ghost use Rattle.rh_draw.specs.Reading.{Shows};
+ghost use Rattle.rh_draw.specs.Reading.{ShowsTags};
 ghost use Rattle.rh_draw.specs.Rows.{at_first, mark_of, row_lines};
 ghost use Rattle.rh_svg.specs.declared.tags.Tag.{Tag};
 ghost use Rattle.rh_draw.specs.declared.limits.TheConstants.{HEAD_STEPS, MAX_STEPS};
@@ -23,7 +23,7 @@ use crate::history::{draw_notices, longest_notice};
 use crate::places::lane_x;
 use crate::records::{Record, Recording, Window, steps_drawn};
 use crate::rows::{draw_rounds, draw_rows};
-use crate::sight::View;
+use crate::sight::PictureLayout;
 use crate::spans::{Span, list_spans, most_letters};
 use crate::words::all_words;
 use rh_svg::{Tag, close, open};
@@ -70,7 +70,7 @@ pub fn draw(
 fn draw_told(
     alloc: Global,
     canvas: &mut Canvas,
-    view: &View,
+    view: &PictureLayout,
     cells: &[u64],
     records: &[Record],
     keys: &[Option<u64>],
@@ -78,7 +78,7 @@ fn draw_told(
     requires { length cells.now ≡ cell_count view.now.shape }
     ensures { OnOk result ((told : List Tag) × AreTold view.now.shape view.now.window
         view.now.right (opening view.now.shape cells.now)
-        records.now told × Shows canvas.old.out.items canvas.new.out.items
+        records.now told × ShowsTags canvas.old.out.items canvas.new.out.items
         (flat_map (mark_of view.now.window) records.now)
         (told ++ row_lines view.now.window view.now.shape.workers
         (at_first view.now.shape.workers) records.now)
@@ -99,7 +99,7 @@ fn lay_out(
     cells: &[u64],
     records: &[Record],
     window: Window,
-) -> Result<(View, Vec<Span>), AllocError>
+) -> Result<(PictureLayout, Vec<Span>), AllocError>
     requires { length cells.now ≡ cell_count shape.now }
     ensures shape { IfOk result (λ out. out.0.shape ≡ shape.now) }
     ensures window { IfOk result (λ out. out.0.window ≡ window) }
@@ -119,7 +119,7 @@ fn lay_out(
     let left = lane_x(shape.workers as u64);
     let sides = column_sides(alloc, &widths, left)?;
     let right = right_side(&widths, left);
-    let view = View {
+    let view = PictureLayout {
         shape: *shape,
         window,
         flags,

@@ -16,13 +16,13 @@ use crate::limits::{
 };
 use crate::lists::at;
 use crate::places::{head_y, lane_x, moment_y};
-use crate::sight::View;
-use rh_svg::{Look, Tag, close, labelled, leaf, open};
+use crate::sight::PictureLayout;
+use rh_svg::{Look, Tag, close, leaf, open, put_text};
 use std::alloc::AllocError;
 
 /// How wide and how high a picture is, where the longest of what is said has so many letters, and
 /// the longest line of the title so many.
-pub(crate) fn picture_size(view: &View, said: u64, title: u64) -> (u64, u64) {
+pub(crate) fn picture_size(view: &PictureLayout, said: u64, title: u64) -> (u64, u64) {
     let right = view.right.saturating_add(room_for(said));
     (
         right.max(LEGEND_WIDTH + room_for(title)),
@@ -62,7 +62,7 @@ fn draw_title(out: &mut Vec<u8>, title: &[Vec<u8>]) -> Result<(), AllocError>
             y: TITLE.saturating_add(TEXT.saturating_mul(number.saturating_sub(1))),
             look: Look::Title,
         };
-        labelled(out, tag, line)?;
+        put_text(out, tag, line)?;
         number = number.saturating_add(1);
     }
     Ok(())
@@ -72,7 +72,7 @@ fn draw_title(out: &mut Vec<u8>, title: &[Vec<u8>]) -> Result<(), AllocError>
 pub(crate) fn draw_frame(
     canvas: &mut Canvas,
     title: &[Vec<u8>],
-    view: &View,
+    view: &PictureLayout,
     size: (u64, u64),
 ) -> Result<(), AllocError>
     ensures { Draws canvas.old.out.items canvas.new.out.items legend_marks legend_lines
@@ -96,7 +96,7 @@ pub(crate) fn draw_frame(
 fn draw_fixed(out: &mut Vec<u8>) -> Result<(), AllocError>
     ensures { Draws out.old.items out.new.items legend_marks legend_lines [] result }
 {
-    labelled(out, Tag::Style, STYLE.as_bytes())?;
+    put_text(out, Tag::Style, STYLE.as_bytes())?;
     draw_outlines(out)?;
     draw_leaves(out, SIGNS)?;
     draw_captions(out)
@@ -134,7 +134,7 @@ fn draw_caption(out: &mut Vec<u8>, given: Caption) -> Result<(), AllocError>
 {
     let Caption { x, y, says } = given;
     let look = says.look();
-    labelled(out, Tag::Label { x, y, look }, says.text().as_bytes())
+    put_text(out, Tag::Label { x, y, look }, says.text().as_bytes())
 }
 
 fn draw_lanes(canvas: &mut Canvas, workers: u64, bottom: u64) -> Result<(), AllocError>
@@ -155,7 +155,7 @@ fn draw_lanes(canvas: &mut Canvas, workers: u64, bottom: u64) -> Result<(), Allo
 }
 
 /// What the lanes and the columns are, at the top and again and again below it.
-pub(crate) fn draw_all_heads(canvas: &mut Canvas, view: &View) -> Result<(), AllocError>
+pub(crate) fn draw_all_heads(canvas: &mut Canvas, view: &PictureLayout) -> Result<(), AllocError>
     ensures { Draws canvas.old.out.items canvas.new.out.items [] []
         (repeated (head_row view.now.shape.workers view.now.flags.items)
         ((view.now.end - 1) / HEAD_STEPS + 1)) result }
@@ -166,7 +166,7 @@ pub(crate) fn draw_all_heads(canvas: &mut Canvas, view: &View) -> Result<(), All
     Ok(())
 }
 
-fn draw_heads(canvas: &mut Canvas, view: &View, y: u64) -> Result<(), AllocError>
+fn draw_heads(canvas: &mut Canvas, view: &PictureLayout, y: u64) -> Result<(), AllocError>
     ensures { Draws canvas.old.out.items canvas.new.out.items [] []
         (head_row view.now.shape.workers view.now.flags.items) result }
 {
@@ -189,7 +189,7 @@ fn draw_lane_heads(canvas: &mut Canvas, workers: u64, y: u64) -> Result<(), Allo
     Ok(())
 }
 
-fn draw_column_heads(canvas: &mut Canvas, view: &View, y: u64) -> Result<(), AllocError>
+fn draw_column_heads(canvas: &mut Canvas, view: &PictureLayout, y: u64) -> Result<(), AllocError>
     ensures { Draws canvas.old.out.items canvas.new.out.items [] []
         (below (column_head view.now.flags.items) (length view.now.flags.items)) result }
 {
@@ -199,7 +199,12 @@ fn draw_column_heads(canvas: &mut Canvas, view: &View, y: u64) -> Result<(), All
     Ok(())
 }
 
-fn draw_column_head(canvas: &mut Canvas, view: &View, y: u64, cell: u64) -> Result<(), AllocError>
+fn draw_column_head(
+    canvas: &mut Canvas,
+    view: &PictureLayout,
+    y: u64,
+    cell: u64,
+) -> Result<(), AllocError>
     ensures { Draws canvas.old.out.items canvas.new.out.items [] []
         (column_head view.now.flags.items cell) result }
 {

@@ -5,21 +5,21 @@ ghost use Rattle.std.specs.Prelude.{◌≡◌, List, [], ◌∷◌, length};
 ghost use Rattle.rh_words.specs.Parts.{cell_count};
 ghost use Rattle.rh_draw.specs.Changing.{LeaveAll, opening};
 ghost use Rattle.rh_draw.specs.Notices.{AreTold, notice};
-ghost use Rattle.rh_draw.specs.Reading.{Draws, Shows};
+ghost use Rattle.rh_draw.specs.Reading.{Draws, ShowsTags};
 ghost use Rattle.std.specs.Prelude.{OnOk};
 ghost use Rattle.rh_svg.specs.declared.tags.Tag.{Tag};
 
 use crate::canvas::Canvas;
 use crate::notices::{draw_notice, push_notice};
 use crate::records::Record;
-use crate::sight::{Sight, View};
+use crate::sight::{PictureLayout, Sight};
 use std::alloc::{AllocError, Global};
 
 /// What is said at single moments, from the first record on.
 pub(crate) fn draw_notices(
     alloc: Global,
     canvas: &mut Canvas,
-    view: &View,
+    view: &PictureLayout,
     cells: &[u64],
     records: &[Record],
     keys: &[Option<u64>],
@@ -27,7 +27,7 @@ pub(crate) fn draw_notices(
     requires { length cells.now ≡ cell_count view.now.shape }
     ensures { OnOk result ((told : List Tag) × AreTold view.now.shape view.now.window
         view.now.right (opening view.now.shape cells.now)
-        records.now told × Shows canvas.old.out.items canvas.new.out.items [] told []) }
+        records.now told × ShowsTags canvas.old.out.items canvas.new.out.items [] told []) }
 {
     let mut sight = Sight::new(alloc, &view.shape, cells)?;
     for record in records {
@@ -41,7 +41,7 @@ pub(crate) fn draw_notices(
 /// How many letters the longest of what is said has.
 pub(crate) fn longest_notice(
     alloc: Global,
-    view: &View,
+    view: &PictureLayout,
     cells: &[u64],
     records: &[Record],
     keys: &[Option<u64>],
@@ -61,7 +61,7 @@ pub(crate) fn longest_notice(
 
 // How many letters that of a record has. The line is room for them.
 fn notice_length(
-    view: &View,
+    view: &PictureLayout,
     sight: &Sight,
     given: Record,
     line: &mut Vec<u8>,
@@ -79,7 +79,7 @@ fn notice_length(
 
 fn draw_notice_of(
     canvas: &mut Canvas,
-    view: &View,
+    view: &PictureLayout,
     sight: &Sight,
     given: Record,
 ) -> Result<(), AllocError>
@@ -112,7 +112,7 @@ fn key_of(keys: &[Option<u64>], given: Record) -> Option<u64> {
 }
 
 // Goes on to what stands where after a record.
-fn go_on(view: &View, sight: &mut Sight, given: Record)
+fn go_on(view: &PictureLayout, sight: &mut Sight, given: Record)
     ensures { LeaveAll view.now.shape sight.old.words.items (given ∷ []) sight.new.words.items }
 {
     if let Record::Step(step) = given {

@@ -3,7 +3,7 @@
 ghost use Rattle.std.specs.Prelude.{◌≡◌, false};
 ghost use Rattle.rh_draw.specs.Reading.{is_head};
 
-use rh_play::kind_word;
+use rh_play_text::kind_word;
 use rh_svg::{Look, Tag};
 use rh_words::StepKind;
 

@@ -19,8 +19,8 @@
 //!   or several times, and no others (`heads_are`).
 //! - Each decision has a line across all lanes, and an act one of its own look. So has each swap of
 //!   a cell to a descriptor that was decided before, and each round that begins there. A step about
-//!   another worker's descriptor or mark has a line to the lane of that worker (`helped`). There is
-//!   no other line but the lanes and those of the legend (`lines_are`).
+//!   another worker's descriptor or mark has a line to the lane of that worker (`helped_worker`).
+//!   There is no other line but the lanes and those of the legend (`lines_are`).
 //! - `fixed_numbers`: the most steps of a picture; no two lanes and no two moments stand at one
 //!   place.
 //! - `steps_from`: how many steps there are from a number on, by which a caller can see whether

@@ -11,15 +11,15 @@ ghost use Rattle.rh_tagword.specs.Control.{control_in};
 ghost use Rattle.rh_tagword.specs.Word.{word_in};
 
 use crate::canvas::Canvas;
-use crate::changes::{decided, entry_count, is_act};
+use crate::changes::{decision, entry_count, is_act};
 use crate::limits::{HALF_LETTER, INDENT, LANE, LEFT};
 use crate::lists::at;
 use crate::places::moment_y;
-use crate::sight::{Sight, View};
+use crate::sight::{PictureLayout, Sight};
 use crate::words::word_at;
 use itoa::Buffer;
-use rh_play::push_texts;
-use rh_svg::{Look, Tag, labelled, leaf};
+use rh_play_text::push_texts;
+use rh_svg::{Look, Tag, leaf, put_text};
 use rh_tagword::{Word, unpack, unpack_control};
 use rh_trace::{Touched, push_word};
 use rh_words::{Part, Shape};
@@ -28,7 +28,7 @@ use std::alloc::AllocError;
 /// A line across all lanes and columns at such a moment, and at its end what it says.
 pub(crate) fn draw_notice(
     canvas: &mut Canvas,
-    view: &View,
+    view: &PictureLayout,
     sight: &Sight,
     moment: u64,
     touched: Touched,
@@ -44,7 +44,7 @@ pub(crate) fn draw_notice(
 
 fn draw_line(
     canvas: &mut Canvas,
-    view: &View,
+    view: &PictureLayout,
     moment: u64,
     look: Option<Look>,
 ) -> Result<(), AllocError>
@@ -68,7 +68,7 @@ fn draw_line(
         y: y + HALF_LETTER,
         look: Look::Saying,
     };
-    labelled(&mut canvas.out, label, &canvas.line)
+    put_text(&mut canvas.out, label, &canvas.line)
 }
 
 /// Appends what a step says, and answers how its line looks, if it says something.
@@ -99,7 +99,7 @@ fn push_decision(
 ) -> Result<Option<Look>, AllocError>
     ensures { IfOk result (λ look. look ≡ decision_look (decided touched)) }
 {
-    if decided(touched).is_none() {
+    if decision(touched).is_none() {
         return Ok(None);
     }
     push_verdict(line, worker, touched.left)?;
@@ -196,7 +196,7 @@ fn desc_in(word: u64) -> Option<(u64, u64)>
 }
 
 // Those of the descriptor to which the step swapped a cell.
-fn promoted(touched: Touched) -> Option<(u64, u64)>
+fn promotion(touched: Touched) -> Option<(u64, u64)>
     ensures { result ≡ promoted touched }
 {
     if touched.left == touched.found {
@@ -226,7 +226,7 @@ fn is_over(number: u64, control: u64) -> bool
 fn late(shape: &Shape, words: &[u64], touched: Touched) -> Option<(u64, u64)>
     ensures { result ≡ late shape.now words.now (promoted touched) }
 {
-    let (owner, number) = promoted(touched)?;
+    let (owner, number) = promotion(touched)?;
     if owner >= shape.workers as u64 {
         return None;
     }

@@ -6,7 +6,7 @@ ghost use Rattle.std.specs.List.{flat_map};
 ghost use Rattle.rh_draw.specs.Places.{lane_x};
 ghost use Rattle.rh_draw.specs.Reading.{Draws, DrawsPlain};
 ghost use Rattle.rh_draw.specs.Rows.{at_after, at_first, at_then, helped, owner_of, row_owner};
-ghost use Rattle.rh_draw.specs.Rows.{desc_owner, help_line, mark_of, record_lines, round_line, row_lines};
+ghost use Rattle.rh_draw.specs.Rows.{desc_owner, help_line, mark_of, record_lines, round_mark, row_lines};
 ghost use Rattle.rh_svg.specs.declared.tags.Tag.TheVariants.{Mark};
 ghost use Rattle.rh_tagword.specs.Word.{word_in};
 
@@ -14,8 +14,8 @@ use crate::canvas::Canvas;
 use crate::limits::{HALF_LETTER, NUMBERS, ROUNDS, ROW};
 use crate::places::{lane_x, moment_y};
 use crate::records::Record;
-use crate::sight::View;
-use rh_svg::{Look, Tag, close, labelled, leaf, open};
+use crate::sight::PictureLayout;
+use rh_svg::{Look, Tag, close, leaf, open, put_text};
 use rh_tagword::{Word, unpack};
 use rh_trace::{Touched, Traced};
 use rh_words::{Part, StepKind};
@@ -90,7 +90,7 @@ fn owner_of(whose: Option<u64>, step: &Traced) -> Option<u64>
 }
 
 // The other worker about whose descriptor or mark a step is, if it is about one.
-fn helped(whose: &[Option<u64>], step: &Traced) -> Option<u64>
+fn helped_worker(whose: &[Option<u64>], step: &Traced) -> Option<u64>
     ensures { result ≡ helped whose.now step.now }
 {
     match owner_of(owner_for(whose, step.worker), step) {
@@ -164,7 +164,7 @@ fn draw_row(
 // A line across all lanes, between the steps, beside what the columns say.
 fn draw_round(canvas: &mut Canvas, workers: u64, moment: u64) -> Result<(), AllocError>
     ensures { Draws canvas.old.out.items canvas.new.out.items []
-        (round_line workers moment ∷ []) [] result }
+        (round_mark workers moment ∷ []) [] result }
 {
     let y = moment_y(moment) + ROW / 2;
     let line = Tag::Line {
@@ -179,7 +179,7 @@ fn draw_round(canvas: &mut Canvas, workers: u64, moment: u64) -> Result<(), Allo
 
 fn draw_record(
     canvas: &mut Canvas,
-    view: &View,
+    view: &PictureLayout,
     whose: &mut Vec<Option<u64>>,
     given: Record,
 ) -> Result<(), AllocError>
@@ -195,7 +195,7 @@ fn draw_record(
                 return Ok(());
             }
             let y = moment_y(view.window.moment(step.number));
-            draw_row(canvas, y, &step, helped(whose, &step))
+            draw_row(canvas, y, &step, helped_worker(whose, &step))
         }
         Record::Round { next } => {
             if !view.window.has_before(next) {
@@ -210,7 +210,7 @@ fn draw_record(
 pub(crate) fn draw_rows(
     alloc: Global,
     canvas: &mut Canvas,
-    view: &View,
+    view: &PictureLayout,
     records: &[Record],
 ) -> Result<(), AllocError>
     ensures { Draws canvas.old.out.items canvas.new.out.items
@@ -228,7 +228,7 @@ pub(crate) fn draw_rows(
 /// How many rounds begin between two steps, beside their line.
 pub(crate) fn draw_rounds(
     canvas: &mut Canvas,
-    view: &View,
+    view: &PictureLayout,
     records: &[Record],
 ) -> Result<(), AllocError>
     ensures { DrawsPlain canvas.old.out.items canvas.new.out.items result }
@@ -244,7 +244,7 @@ pub(crate) fn draw_rounds(
 // Counts a round, and says how many they are with the last one of those before a step.
 fn count_round(
     canvas: &mut Canvas,
-    view: &View,
+    view: &PictureLayout,
     given: Record,
     is_last: bool,
     rounds: &mut u64,
@@ -272,7 +272,7 @@ fn say_rounds(canvas: &mut Canvas, moment: u64, rounds: u64) -> Result<(), Alloc
         look: Look::Number,
     };
     if rounds == 1 {
-        labelled(&mut canvas.out, label, b"round")
+        put_text(&mut canvas.out, label, b"round")
     } else {
         canvas.count(label, b"rounds: ", rounds)
     }

@@ -13,7 +13,7 @@ use std::alloc::{AllocError, Global};
 
 /// How a picture is laid out.
 #[derive(Drop)]
-pub(crate) struct View {
+pub(crate) struct PictureLayout {
     pub(crate) shape: Shape,
     pub(crate) window: Window,
     /// For each cell, whether it has a column: 0 if not.

@@ -175,11 +175,11 @@ impl SeqSet {
                 keys.push(key)?;
             }
         }
-        Ok(sorted(keys))
+        Ok(sort_keys(keys))
     }
 }
 
-fn sorted(mut keys: Vec<u64>) -> Vec<u64>
+fn sort_keys(mut keys: Vec<u64>) -> Vec<u64>
     ensures moved { IsPermutation keys.items result.items }
     ensures sorted { IsSorted nat_cmp result.items }
 {

@@ -11,8 +11,8 @@ use Rattle.rh_faulty.specs.declared.shelf.ShelfFailure.TheVariants.{Call, Read}
 abbrev pub known_bytes : Vec ℕ Global → Option (List ℕ)
 known_bytes v = Some v.items
 
-abbrev pub shelf_of : FaultyShelf → MemShelf
-shelf_of s = s.shelf
+abbrev pub inner_shelf : FaultyShelf → MemShelf
+inner_shelf s = s.shelf
 
 abbrev pub failure_of : FaultyShelf → ShelfFailure
 failure_of s = s.failure

@@ -6,7 +6,7 @@ ghost use Rattle.std.specs.Bool.{OnFalse, OnTrue};
 ghost use Rattle.rh_bytes.specs.Counting.{Rose};
 ghost use Rattle.rh_shelf.specs.Kinds.{files_of};
 ghost use Rattle.rh_shelf.specs.Shelf.{Finds, InDoubt, Lacks, Puts};
-ghost use Rattle.rh_faulty.specs.Shelf.{shelf_of, failure_of, calls_of, next_call, readers_of};
+ghost use Rattle.rh_faulty.specs.Shelf.{inner_shelf, failure_of, calls_of, next_call, readers_of};
 ghost use Rattle.rh_faulty.specs.Shelf.{next_reader, own_failures_in, known_bytes, read_that_fails};
 ghost use Rattle.rh_faulty.specs.Streams.{fails_in, unread_of};
 
@@ -36,7 +36,7 @@ pub struct FaultyShelf {
 
 impl FaultyShelf {
     pub fn new(shelf: MemShelf, failure: ShelfFailure) -> FaultyShelf
-        ensures shelf { shelf_of result ≡ shelf }
+        ensures shelf { inner_shelf result ≡ shelf }
         ensures failure { failure_of result ≡ failure }
         ensures no_call { calls_of result ≡ 0 }
         ensures no_reader { readers_of result ≡ 0 }
@@ -60,7 +60,7 @@ impl FaultyShelf {
         ensures fine { OnFalse result (own_failures_in self.new ≡ own_failures_in self.old) }
         ensures same_failure { failure_of self.new ≡ failure_of self.old }
         ensures same_readers { readers_of self.new ≡ readers_of self.old }
-        ensures same_shelf { shelf_of self.new ≡ shelf_of self.old }
+        ensures same_shelf { inner_shelf self.new ≡ inner_shelf self.old }
     {
         self.calls = self.calls.saturating_add(1);
         let fails = self.failure == ShelfFailure::Call(self.calls);
@@ -79,7 +79,7 @@ impl FaultyShelf {
         ensures same_calls { calls_of self.new ≡ calls_of self.old }
         ensures same_failure { failure_of self.new ≡ failure_of self.old }
         ensures same_readers { readers_of self.new ≡ readers_of self.old }
-        ensures same_shelf { shelf_of self.new ≡ shelf_of self.old }
+        ensures same_shelf { inner_shelf self.new ≡ inner_shelf self.old }
     {
         if let Err(ShelfFault::Memory) = outcome {
             self.failures = self.failures.saturating_add(1);
@@ -90,21 +90,21 @@ impl FaultyShelf {
 impl Shelf for FaultyShelf {
     type Reader = FaultyReader<Vec<u8>>;
 
-    ghost files = { λ s. Some (files_of (shelf_of s)) };
+    ghost files = { λ s. Some (files_of (inner_shelf s)) };
 
     ghost failures = { own_failures_in };
 
     fn fetch(&mut self, alloc: Global, path: &str) -> Result<FaultyReader<Vec<u8>>, ShelfFault>
         ensures found { IfOk result (λ r.
-            Finds (Some (files_of (shelf_of self.old))) path.now (unread_of known_bytes r)) }
+            Finds (Some (files_of (inner_shelf self.old))) path.now (unread_of known_bytes r)) }
         ensures missing { IsErrOf result ShelfFault.Missing →
-            Lacks (Some (files_of (shelf_of self.old))) path.now
+            Lacks (Some (files_of (inner_shelf self.old))) path.now
             ⊎ Rose (own_failures_in self.old) (own_failures_in self.new) }
         ensures memory { IsErrOf result ShelfFault.Memory →
             Rose (own_failures_in self.old) (own_failures_in self.new) }
         ensures no_write { IsErrOf result ShelfFault.Write → ⊥ }
         ensures fine { OnOk result (own_failures_in self.new ≡ own_failures_in self.old) }
-        ensures same_files { files_of (shelf_of self.new) ≡ files_of (shelf_of self.old) }
+        ensures same_files { files_of (inner_shelf self.new) ≡ files_of (inner_shelf self.old) }
 
         // Which call fails, and which reader.
         ensures counts { calls_of self.new ≡ next_call self.old }
@@ -134,12 +134,12 @@ impl Shelf for FaultyShelf {
     }
 
     fn put(&mut self, alloc: Global, path: &str, bytes: &[u8]) -> Result<(), ShelfFault>
-        ensures put { OnOk result (Puts (Some (files_of (shelf_of self.old)))
-            (Some (files_of (shelf_of self.new))) path.now bytes.now) }
-        ensures doubt { OnErr result (InDoubt (Some (files_of (shelf_of self.old)))
-            (Some (files_of (shelf_of self.new))) path.now) }
-        ensures refused { OnErr result (files_of (shelf_of self.new)
-            ≡ files_of (shelf_of self.old)) }
+        ensures put { OnOk result (Puts (Some (files_of (inner_shelf self.old)))
+            (Some (files_of (inner_shelf self.new))) path.now bytes.now) }
+        ensures doubt { OnErr result (InDoubt (Some (files_of (inner_shelf self.old)))
+            (Some (files_of (inner_shelf self.new))) path.now) }
+        ensures refused { OnErr result (files_of (inner_shelf self.new)
+            ≡ files_of (inner_shelf self.old)) }
         ensures failed { OnErr result (Rose (own_failures_in self.old) (own_failures_in self.new)) }
         ensures not_missing { IsErrOf result ShelfFault.Missing → ⊥ }
         ensures fine { OnOk result (own_failures_in self.new ≡ own_failures_in self.old) }

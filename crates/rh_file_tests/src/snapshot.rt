@@ -71,7 +71,7 @@ fn tables_are_written_in_the_second_version(rt: HostRuntime) -> Result<(), Fail>
 }
 
 // The bytes of a header and of numbers, and their seal.
-fn sealed(
+fn seal_bytes(
     alloc: Global,
     magic: &[u8; 4],
     count: u64,
@@ -118,7 +118,7 @@ fn sealed_tables_are_read(rt: HostRuntime) -> Result<(), Fail> {
         (b"RHS2", ROUND_THE_END),
         (b"RHS1", [16, 21, 5, 0, 0, 0, 0, 8]),
     ] {
-        let bytes = sealed(rt.alloc(), magic, 4, &numbers)?;
+        let bytes = seal_bytes(rt.alloc(), magic, 4, &numbers)?;
         let table = table_of(rt.alloc(), &bytes)?;
         assert_eq!(rt; table.count, 4);
         assert_eq!(rt; table.cells.as_slice(), ROUND_THE_END.as_slice());
@@ -130,7 +130,7 @@ fn sealed_tables_are_read(rt: HostRuntime) -> Result<(), Fail> {
 #[test]
 fn the_greatest_key_is_read(rt: HostRuntime) -> Result<(), Fail> {
     for (magic, number) in [(b"RHS2", (1 << 62) - 1), (b"RHS1", (1 << 62) - 2)] {
-        let bytes = sealed(rt.alloc(), magic, 1, &[number, 0, 0, 0, 0, 0, 0, 0])?;
+        let bytes = seal_bytes(rt.alloc(), magic, 1, &[number, 0, 0, 0, 0, 0, 0, 0])?;
         let table = table_of(rt.alloc(), &bytes)?;
         assert_eq!(rt; table.cells.first().copied(), Some((1 << 62) - 1));
     }
@@ -146,7 +146,7 @@ fn assert_refused(rt: &(impl Abort + AllocGlobal), bytes: &[u8], fault: SnapFaul
 #[test]
 fn sealed_bytes_that_are_no_layout_are_refused(rt: HostRuntime) -> Result<(), Fail> {
     for &(magic, count, numbers) in NO_TABLES {
-        let mut bytes = sealed(rt.alloc(), magic, count, &numbers)?;
+        let mut bytes = seal_bytes(rt.alloc(), magic, count, &numbers)?;
         assert_refused(&rt, &bytes, SnapFault::NotALayout);
         // A byte more, which is found after the cells, and a bit of the seal, found before them.
         bytes.push(0)?;

@@ -10,9 +10,9 @@
 //! handle.clear(alloc);                        // an empty set again
 //! ```
 //!
-//! Proved: a handle owns the set that was put into it, and each call makes of that set, and answers,
-//! what the call of `Set` with its name does (`held_in` of `specs/Calls.antt`). A handle may go to
-//! another thread.
+//! Proved: a handle owns the set that was put into it, and each call makes of that set, and
+//! answers, what the call of `Set` with its name does (`held_in` of `specs/Calls.antt`). A handle
+//! may go to another thread.
 #![tactic(auto)]
 
 mod calls;

@@ -16,7 +16,7 @@ use Rattle.rh_words.specs.Words.{control_of, control_word_of, read_control, seri
 use Rattle.rh_words.specs.Steps.{IsKnown, control_read, decided_word, stale_noted, is_known, mark_control_read, tells_opened}
 use Rattle.rh_rule.specs.Sound.{ControlTells, IsControlWord}
 use Rattle.rh_rule.proofs.Said.{control_said_is, serial_said_is}
-use Rattle.rh_steps.specs.Own.{KnowsOwn}
+use Rattle.rh_carrier.specs.Own.{KnowsOwn}
 use Rattle.rh_helping.specs.Goal.{IsAfterFailures, IsMet, IsOther, StandsAt}
 use Rattle.rh_helping.specs.CellContent.{state_said}
 use Rattle.rh_helping.specs.Settling.{FailsNone, Keeps}

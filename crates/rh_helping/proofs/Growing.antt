@@ -13,7 +13,7 @@ use Rattle.rh_words.specs.Steps.{IsKnown, entry_of, row_word}
 use Rattle.rh_helping.specs.declared.goal.Task.{Task}
 use Rattle.rh_helping.specs.Next.{Goal}
 use Rattle.rh_helping.specs.declared.goal.Owed.{Owed}
-use Rattle.rh_steps.specs.Own.{IsAllNoted, IsClear, IsOpenOf, KnowsOwn, OwesNothing, Owns, open_number}
+use Rattle.rh_carrier.specs.Own.{IsAllNoted, IsClear, IsOpenOf, KnowsOwn, OwesNothing, Owns, open_number}
 use Rattle.rh_helping.specs.Goal.{IsStale, HasReason, HasReleased, IsForeign, IsMet, KnowsGoal, KnowsTask, OwesOne, Releases, ReleasesOther, ReleasesOwn, StandsAt}
 use Rattle.rh_helping.specs.Settling.{FailsNone, Grows, Keeps}
 use Rattle.rh_helping.specs.Work.{IsAt, IsOver, Owes, OwesAs}

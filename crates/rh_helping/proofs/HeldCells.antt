@@ -7,12 +7,12 @@ use Rattle.rh_world.specs.Facts.Fact.{desc_is, found, old_is, size_is, target_is
 use Rattle.rh_words.specs.declared.shape.Shape.{Shape}
 use Rattle.rh_words.specs.View.{View, own_ref}
 use Rattle.rh_words.specs.Words.{ref_of}
-use Rattle.rh_helping.specs.Next.{Goal, Looking, Placed, Work}
+use Rattle.rh_helping.specs.Next.{Goal, Looking, PlacedMark, Work}
 use Rattle.rh_helping.specs.declared.goal.Owed.{Owed}
 use Rattle.rh_helping.specs.declared.goal.Task.{Task}
 use Rattle.rh_helping.specs.Next.{Looking as looking}
 use Rattle.rh_helping.specs.Next.{Work as work}
-use Rattle.rh_steps.specs.Own.{OwesNothing}
+use Rattle.rh_carrier.specs.Own.{OwesNothing}
 use Rattle.rh_helping.specs.Goal.{KnowsGoal, KnowsTask, OwesOne, StandsAt, owed_of}
 use Rattle.rh_helping.specs.Held.{IsHeld, KnowsOld, held_by, held_in}
 use Rattle.rh_helping.specs.Looking.{IsLooking}
@@ -43,7 +43,7 @@ task_held v t Unused is h owes = absurd (subst (λ (s : State). StandsAt v.side.
 task_held v t Undecided is h owes = subst (IsHeld v) (sym (h.unowed is)) (none_held v owes)
 task_held v t _ is h owes = released_held v (ref_of t.desc) t.entry t.size t.owed h.size owes.settled owes.owes
 
-placed_held : (v : View) (p : Placed) → IsMarkPlaced v p → IsHeld v (Some (owed_of p.goal))
+placed_held : (v : View) (p : PlacedMark) → IsMarkPlaced v p → IsHeld v (Some (owed_of p.goal))
 placed_held v p h =
     let own : ref_of p.mark ≡ own_ref v p.mark.number = (λ i. record { worker = h.own i; number = p.mark.number }) in (
       goal_old v p.goal h.goal,

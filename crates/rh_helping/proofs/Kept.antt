@@ -6,11 +6,11 @@ use Rattle.rh_words.specs.View.{OwnDesc, View}
 use Rattle.rh_words.specs.View.RowWord.{cell_word, length_word, new_word, old_word}
 use Rattle.rh_words.specs.Words.{ref_of}
 use Rattle.rh_words.specs.Steps.{Allowed, noted}
-use Rattle.rh_steps.specs.Own.{KnowsOwn}
-use Rattle.rh_steps.specs.Relies.{Knows}
+use Rattle.rh_carrier.specs.Own.{KnowsOwn}
+use Rattle.rh_carrier.specs.Relies.{Knows}
 use Rattle.rh_helping.specs.Keeping.{IsKept, kept}
 use Rattle.rh_helping.specs.Next.{Work}
-use Rattle.rh_helping.specs.Next.Outcome.{On}
+use Rattle.rh_helping.specs.Next.StageOutcome.{On}
 use Rattle.rh_helping.specs.Next.{Work as work}
 use Rattle.rh_helping.specs.Requested.{requested}
 use Rattle.rh_helping.specs.Work.{Leads, Stands}

@@ -9,7 +9,7 @@ use Rattle.rh_words.specs.Steps.{Allowed, IsDesc, IsKnown, IsStep, Step}
 use Rattle.rh_helping.specs.declared.goal.Task.{Task}
 use Rattle.rh_helping.specs.Next.{Goal}
 use Rattle.rh_helping.specs.Goal.{KnowsGoal, KnowsTask}
-use Rattle.rh_steps.specs.Relies.{Knows}
+use Rattle.rh_carrier.specs.Relies.{Knows}
 use Rattle.rh_helping.proofs.Growing.{stands_known}
 
 module _ (z : Shape) (v : View) (trusts : Knows z v) where

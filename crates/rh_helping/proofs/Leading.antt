@@ -2,12 +2,12 @@
 use Rattle.std.proofs.Common.{◌≡◌, Option, refl, sym, subst}
 use Rattle.rh_words.specs.declared.shape.Shape.{Shape}
 use Rattle.rh_words.specs.View.{OwnDesc, View}
-use Rattle.rh_helping.specs.Next.{Outcome, Work}
-use Rattle.rh_helping.specs.Next.Outcome.{On}
+use Rattle.rh_helping.specs.Next.{StageOutcome, Work}
+use Rattle.rh_helping.specs.Next.StageOutcome.{On}
 use Rattle.rh_helping.specs.Stepping.{ComesTo}
 use Rattle.rh_helping.specs.Work.{Leads}
 
-pub lead : (z : Shape) (next said : View) (opens : Option OwnDesc) (o : Outcome) → next ≡ said → Leads z said opens o → Leads z next opens o
+pub lead : (z : Shape) (next said : View) (opens : Option OwnDesc) (o : StageOutcome) → next ≡ said → Leads z said opens o → Leads z next opens o
 lead z next said opens o e h = subst (λ (v : View). Leads z v opens o) (sym e) h
 
 -- the step leads to a next one, and no other is made

@@ -13,13 +13,13 @@ use Rattle.rh_words.specs.Words.{cell_in, ref_of}
 use Rattle.rh_words.specs.Parts.{cell_count}
 use Rattle.rh_words.specs.Steps.{Allowed, Step, noted, with_side}
 use Rattle.rh_rule.specs.Represents.{IsCell}
-use Rattle.rh_steps.specs.Relies.{Knows}
+use Rattle.rh_carrier.specs.Relies.{Knows}
 use Rattle.rh_helping.specs.Next.{Looked}
 use Rattle.rh_helping.specs.Next.Looked.{On, Sees}
 use Rattle.rh_helping.specs.Next.{Looking as looking}
 use Rattle.rh_helping.specs.Next.{Settles as settling}
 use Rattle.rh_helping.specs.Next.{Work as work}
-use Rattle.rh_steps.specs.Own.{IsClear}
+use Rattle.rh_carrier.specs.Own.{IsClear}
 use Rattle.rh_helping.specs.Looking.{LooksOn, reads_after}
 use Rattle.rh_helping.specs.Settling.{Grows}
 use Rattle.rh_helping.proofs.Growing.{clear_grows}

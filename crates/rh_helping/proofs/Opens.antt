@@ -16,10 +16,10 @@ use Rattle.rh_words.specs.Parts.{cell_count, entry_row}
 use Rattle.rh_words.specs.View.{OwnDesc, View, Written}
 use Rattle.rh_words.specs.Steps.{Allowed, AreEntries, CanOpenNext, HasRow, IsStep, Step, entries_at, entries_of, entry_of, next_entries, noted, open_noted, own_desc, row_word}
 use Rattle.rh_rule.proofs.OpensKept.{entries_current, entries_length, entries_notes, fits_cells}
-use Rattle.rh_steps.specs.Relies.{Knows, Went}
+use Rattle.rh_carrier.specs.Relies.{Knows, Went}
 use Rattle.rh_helping.specs.declared.opening.Opening.{Opening}
 use Rattle.rh_helping.specs.declared.opening.Opening.TheVariants as opening
-use Rattle.rh_steps.specs.Own.{IsAllNoted, KnowsOwn, OwesNothing}
+use Rattle.rh_carrier.specs.Own.{IsAllNoted, KnowsOwn, OwesNothing}
 use Rattle.rh_helping.specs.Made.{HasStepped, kind_of}
 use Rattle.rh_helping.specs.Opening.{HasCell, HasNew, HasOld, HasWritten, IsOpening, MayOpen, OpensOn, after_opening, kind_of_opening, next_own, opened_after, opening_step}
 use Rattle.rh_helping.proofs.Growing.{noted_sub, owns_sub}

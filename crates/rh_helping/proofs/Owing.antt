@@ -12,7 +12,7 @@ use Rattle.rh_words.specs.Words.{ref_of}
 use Rattle.rh_helping.specs.Next.{Goal}
 use Rattle.rh_helping.specs.declared.goal.Owed.{Owed}
 use Rattle.rh_helping.specs.declared.goal.Task.{Task}
-use Rattle.rh_steps.specs.Own.{IsAllNoted, IsNewestOwn, KnowsOwn, OwesNothing, open_number}
+use Rattle.rh_carrier.specs.Own.{IsAllNoted, IsNewestOwn, KnowsOwn, OwesNothing, open_number}
 use Rattle.rh_helping.specs.Goal.{IsStale, HasReleased, IsForeign, OwesOne, Releases, ReleasesOther, ReleasesOwn, StandsAt, debt_of, owed_of}
 use Rattle.rh_helping.specs.Settling.{Grows}
 use Rattle.rh_helping.specs.Work.{IsAt, IsGivenUp, IsOver, OwesAs}

@@ -11,9 +11,9 @@ use Rattle.rh_words.specs.Steps.{IsKnown, entry_of, row_word}
 use Rattle.rh_rule.specs.Sound.{OwnRow}
 use Rattle.rh_words.specs.Parts.{entry_row}
 use Rattle.rh_helping.specs.declared.goal.Task.{Task}
-use Rattle.rh_steps.specs.Own.{IsAllNoted, KnowsOwn}
+use Rattle.rh_carrier.specs.Own.{IsAllNoted, KnowsOwn}
 use Rattle.rh_helping.specs.Goal.{KnowsGoal, KnowsTask}
-use Rattle.rh_steps.specs.Relies.{Knows}
+use Rattle.rh_carrier.specs.Relies.{Knows}
 use Rattle.rh_helping.proofs.Knowing.{task_known}
 use Rattle.rh_helping.proofs.Owing.{open_all_noted}
 

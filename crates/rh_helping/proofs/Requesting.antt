@@ -5,9 +5,9 @@ use Rattle.rh_words.specs.declared.steps.StepKind.{StepKind}
 use Rattle.rh_words.specs.View.{OwnDesc, View}
 use Rattle.rh_words.specs.Steps.{Allowed, Step, noted}
 use Rattle.rh_rule.specs.Sound.{Finds}
-use Rattle.rh_steps.specs.Relies.{Knows, Went}
+use Rattle.rh_carrier.specs.Relies.{Knows, Went}
 use Rattle.rh_helping.specs.Requested.{SettledFrom, asked_of_mark, requested}
-use Rattle.rh_steps.specs.Own.{KnowsOwn}
+use Rattle.rh_carrier.specs.Own.{KnowsOwn}
 use Rattle.rh_helping.specs.Goal.{piece_of}
 use Rattle.rh_helping.specs.Made.{HasMadeStep, kind_of}
 use Rattle.rh_helping.specs.Next.{Settles, Work}

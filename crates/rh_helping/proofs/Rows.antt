@@ -16,7 +16,7 @@ use Rattle.rh_words.specs.Steps.{Allowed, Step, desc_row_said, stale_noted, rows
 use Rattle.rh_helping.specs.Next.{Goal}
 use Rattle.rh_helping.specs.declared.goal.Task.{Task}
 use Rattle.rh_helping.specs.Goal.{HasReadRow, KnowsGoal}
-use Rattle.rh_steps.specs.Relies.{Knows}
+use Rattle.rh_carrier.specs.Relies.{Knows}
 use Rattle.rh_helping.specs.Settling.{Grows}
 use Rattle.rh_helping.specs.Work.{IsAt}
 use Rattle.rh_helping.proofs.Growing.{Sub, task_grows}

@@ -11,9 +11,9 @@ use Rattle.rh_words.specs.View.{OwnDesc, View, Written}
 use Rattle.rh_words.specs.Steps.{Allowed, IsKnown, Step, row_word}
 use Rattle.rh_words.specs.Words.{ref_of}
 use Rattle.rh_helping.specs.declared.goal.Task.{Task}
-use Rattle.rh_steps.specs.Own.{KnowsOwn, OwesNothing}
+use Rattle.rh_carrier.specs.Own.{KnowsOwn, OwesNothing}
 use Rattle.rh_helping.specs.Goal.{HasReason, IsMet, IsOther}
-use Rattle.rh_steps.specs.Relies.{Knows}
+use Rattle.rh_carrier.specs.Relies.{Knows}
 use Rattle.rh_helping.specs.Work.{Begins, IsNextTask, failed_by}
 use Rattle.rh_helping.proofs.Controls.{Saw}
 use Rattle.rh_helping.proofs.Growing.{own_sub, stands_known}

@@ -11,7 +11,7 @@ use Rattle.rh_words.specs.Words.{IsPlain, ref_of}
 use Rattle.rh_helping.specs.Next.{Looked, Looking}
 use Rattle.rh_helping.specs.Next.{Looking as looking}
 use Rattle.rh_helping.specs.Next.Looked.{On, Sees, Spent}
-use Rattle.rh_steps.specs.Own.{IsClear, KnowsOwn}
+use Rattle.rh_carrier.specs.Own.{IsClear, KnowsOwn}
 use Rattle.rh_helping.specs.Settling.{EndsSettling, IsSettling, kind_of_settling}
 use Rattle.rh_helping.specs.Work.{ReleasesLast, Stands, desc_of, kind_of_work}
 

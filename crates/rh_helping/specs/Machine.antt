@@ -13,10 +13,10 @@ use Rattle.rh_helping.specs.declared.settling.Settling.{Settling}
 use Rattle.rh_helping.specs.declared.settling.SettlingAt.{SettlingAt}
 use Rattle.rh_helping.specs.declared.settling.SettlingAt.TheVariants as at
 use Rattle.rh_helping.specs.Goal.{owed_of}
-use Rattle.rh_helping.specs.Next.{Goal, Looked, Looking, Outcome, Placed, Settles, Work}
+use Rattle.rh_helping.specs.Next.{Goal, Looked, Looking, StageOutcome, PlacedMark, Settles, Work}
 use Rattle.rh_helping.specs.Next.{Looked as seen}
 use Rattle.rh_helping.specs.Next.{Looking as looking}
-use Rattle.rh_helping.specs.Next.{Outcome as outcome}
+use Rattle.rh_helping.specs.Next.{StageOutcome as outcome}
 use Rattle.rh_helping.specs.Next.{Settles as settles}
 use Rattle.rh_helping.specs.Next.{Work as work}
 
@@ -45,7 +45,7 @@ left_on false m = None
 abbrev pub goal_of : Machine → Goal
 goal_of m = record { task = m.task; cell = m.change.cell; old = m.change.old; new = m.change.new }
 
-abbrev pub placed_of : Machine → Placed
+abbrev pub placed_of : Machine → PlacedMark
 placed_of m = record { goal = goal_of m; mark = m.mark }
 
 abbrev pub work_at : At → Machine → Work
@@ -77,7 +77,7 @@ abbrev pub work_of : Machine → Work
 work_of m = work_at m.at m
 
 -- what its step leads to
-abbrev pub led : Progress → Machine → Outcome
+abbrev pub led : Progress → Machine → StageOutcome
 led progress.On m = outcome.On (work_of m)
 led progress.Over m = outcome.Over
 led (progress.Closed k) m = outcome.Closed k

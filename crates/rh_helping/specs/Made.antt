@@ -8,7 +8,7 @@ use Rattle.rh_words.specs.declared.steps.StepKind.{StepKind}
 use Rattle.rh_words.specs.declared.steps.StepKind.TheVariants as kind
 use Rattle.rh_words.specs.View.{OwnDesc, View}
 use Rattle.rh_words.specs.Steps.{Allowed, Step, noted}
-use Rattle.rh_steps.specs.Relies.{Trusts}
+use Rattle.rh_carrier.specs.Relies.{Trusts}
 
 abbrev pub kind_of : Step → StepKind
 kind_of (Step.writes p u) = kind.Write

@@ -37,7 +37,7 @@ pub record Goal : Type 0 where
   pub new : ℕ
 
 -- an own mark that was placed for a goal
-pub record Placed : Type 0 where
+pub record PlacedMark : Type 0 where
   pub goal : Goal
   pub mark : Reference
 
@@ -63,11 +63,11 @@ pub data Work : Type 0 where
   -- Settling of another mark that stands in the goal's cell
   Settle : Settles → Goal → Work
   -- Read of the descriptor's control once the mark is placed
-  MarkControl : Placed → Work
+  MarkControl : PlacedMark → Work
   -- Settle of the mark to its descriptor
-  Promote : Placed → Work
+  Promote : PlacedMark → Work
   -- Settle of the mark to the old value, as the descriptor is decided so, or it is stale
-  Demote : Placed → Option State → Work
+  Demote : PlacedMark → Option State → Work
   -- Read of the descriptor's control once it stands in the cell, if it came to stand there
   Recheck : Goal → (promoted : Bool) → Work
   -- Write of the next entry, which did not hold its old value, as the own reason to the owner
@@ -85,15 +85,15 @@ pub data Work : Type 0 where
   -- Release of the one entry whose cell is owed, to its old value, as the descriptor is stale
   GiveBack : Owed → Work
 
-pub data Outcome : Type 0 where
+pub data StageOutcome : Type 0 where
   -- the next step
-  On : Work → Outcome
+  On : Work → StageOutcome
   -- The descriptor is released, or left as it is stale. No own descriptor is open, and nothing is owed.
-  Over : Outcome
+  Over : StageOutcome
   -- the own descriptor that was open ended so, and is released
-  Closed : Ended → Outcome
+  Closed : Ended → StageOutcome
   -- no mark is left, and no own descriptor is open
-  Spent : Outcome
+  Spent : StageOutcome
 
 -- ---- with a cell that it looks at
 

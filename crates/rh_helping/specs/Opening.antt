@@ -10,7 +10,7 @@ use Rattle.rh_words.specs.View.{OwnDesc, View}
 use Rattle.rh_words.specs.Steps.{AreEntries, HasRow, Step, entry_of, row_word}
 use Rattle.rh_helping.specs.declared.opening.Opening.{Opening}
 use Rattle.rh_helping.specs.declared.opening.Opening.TheVariants as opening
-use Rattle.rh_steps.specs.Own.{KnowsOwn, Owns, OwesNothing}
+use Rattle.rh_carrier.specs.Own.{KnowsOwn, Owns, OwesNothing}
 
 abbrev pub kind_of_opening : Opening → StepKind
 kind_of_opening opening.Serial = kind.Write

@@ -11,9 +11,9 @@ use Rattle.rh_words.specs.View.{OwnDesc, View}
 use Rattle.rh_words.specs.Words.{control_of, desc_number, ref_of}
 use Rattle.rh_words.specs.Steps.{Step, decided_word, noted}
 use Rattle.rh_rule.specs.Sound.{Finds}
-use Rattle.rh_steps.specs.Relies.{Knows, Trusts}
+use Rattle.rh_carrier.specs.Relies.{Knows, Trusts}
 use Rattle.rh_helping.specs.declared.goal.Task.{Task}
-use Rattle.rh_steps.specs.Own.{KnowsOwn, OwesNothing}
+use Rattle.rh_carrier.specs.Own.{KnowsOwn, OwesNothing}
 use Rattle.rh_helping.specs.Goal.{KnowsTask, released_value}
 use Rattle.rh_helping.specs.Next.{Settles, Work}
 use Rattle.rh_helping.specs.Next.{Settles as settles}

@@ -4,11 +4,11 @@ use Rattle.rh_words.specs.declared.shape.Shape.{Shape}
 use Rattle.rh_words.specs.Parts.{cell_count}
 use Rattle.rh_words.specs.View.{OwnDesc, View}
 use Rattle.rh_words.specs.Steps.{Step}
-use Rattle.rh_steps.specs.Own.{KnowsOwn}
-use Rattle.rh_steps.specs.Relies.{Relies, Trusts}
+use Rattle.rh_carrier.specs.Own.{KnowsOwn}
+use Rattle.rh_carrier.specs.Relies.{Relies, Trusts}
 use Rattle.rh_helping.specs.Looking.{IsLooking, LooksOn, MayLookOn, kind_of_looking, reads_after}
 use Rattle.rh_helping.specs.Made.{HasMadeStep, HasStepped}
-use Rattle.rh_helping.specs.Next.{Looked, Looking, Outcome, Work}
+use Rattle.rh_helping.specs.Next.{Looked, Looking, StageOutcome, Work}
 use Rattle.rh_helping.specs.Work.{Leads, MayEnd, Stands, kind_of_work}
 
 -- A worker of whom this own descriptor is open, or none, may make this step of its work.
@@ -18,7 +18,7 @@ pub record MayGoOn {T : Type 0} (shows serves : Shape → T → View → Type 0)
   pub stands : Stands z v w
 
 -- The step was made and led to this; it ended the work only where it may.
-pub record HasGoneOn {T : Type 0} (shows : Shape → T → View → Type 0) (makes : Shape → Step → T → View → ℕ → T → View → Type 0) (z : Shape) (opens : Option OwnDesc) (w : Work) (t : T) (v : View) (o : Outcome) (then : T) (next : View) : Type 0 where
+pub record HasGoneOn {T : Type 0} (shows : Shape → T → View → Type 0) (makes : Shape → Step → T → View → ℕ → T → View → Type 0) (z : Shape) (opens : Option OwnDesc) (w : Work) (t : T) (v : View) (o : StageOutcome) (then : T) (next : View) : Type 0 where
   pub made : HasMadeStep shows makes z (kind_of_work w) t v then next
   pub leads : Leads z next opens o
   pub ends : MayEnd next w o
@@ -29,7 +29,7 @@ pub record IsBetween {T : Type 0} (shows : Shape → T → View → Type 0) (z :
   pub own : KnowsOwn v opens
 
 -- The worker comes to this without another step, and ends the work only where it may.
-pub record ComesTo {T : Type 0} (z : Shape) (opens : Option OwnDesc) (w : Work) (t : T) (v : View) (o : Outcome) (then : T) : Type 0 where
+pub record ComesTo {T : Type 0} (z : Shape) (opens : Option OwnDesc) (w : Work) (t : T) (v : View) (o : StageOutcome) (then : T) : Type 0 where
   pub same : then ≡ t
   pub leads : Leads z v opens o
   pub ends : MayEnd v w o

@@ -15,13 +15,13 @@ use Rattle.rh_words.specs.View.RowWord.{cell_word, length_word, new_word, old_wo
 use Rattle.rh_words.specs.Words.{desc_number, ref_of}
 use Rattle.rh_words.specs.Steps.{HasSerial, IsKnown, row_word}
 use Rattle.rh_helping.specs.declared.goal.Task.{Task}
-use Rattle.rh_helping.specs.Next.{Goal, Outcome, Placed, Work}
+use Rattle.rh_helping.specs.Next.{Goal, StageOutcome, PlacedMark, Work}
 use Rattle.rh_helping.specs.declared.goal.Owed.{Owed}
 use Rattle.rh_helping.specs.Next.{Work as work}
-use Rattle.rh_helping.specs.Next.Outcome.{On, Over, Closed, Spent}
+use Rattle.rh_helping.specs.Next.StageOutcome.{On, Over, Closed, Spent}
 use Rattle.rh_helping.specs.declared.machine.Ended.{Ended}
 use Rattle.rh_helping.specs.declared.machine.Ended.TheVariants as ended
-use Rattle.rh_steps.specs.Own.{IsNewestOwn, KnowsOwn, OwesNothing}
+use Rattle.rh_carrier.specs.Own.{IsNewestOwn, KnowsOwn, OwesNothing}
 use Rattle.rh_helping.specs.Goal.{GivesBack, IsStale, HasReadRow, HasReason, IsForeign, IsMet, KnowsGoal, KnowsTask, Releases, debt_of, owed_of}
 use Rattle.rh_helping.specs.Settling.{IsSettling, kind_of_settling}
 
@@ -122,7 +122,7 @@ pub record NamesEntry (z : Shape) (v : View) (g : Goal) : Type 0 where
   pub entry : row_word v.written (mark_row z 2) ≡ g.task.entry
 
 -- the own mark is placed for the goal, whose descriptor was undecided then, and not settled yet
-pub record IsMarkPlaced (v : View) (p : Placed) : Type 0 where
+pub record IsMarkPlaced (v : View) (p : PlacedMark) : Type 0 where
   pub goal : KnowsGoal v p.goal
   pub undecided : p.goal.task.state ≡ Undecided
   pub own : p.mark.worker ≡ v.worker
@@ -215,7 +215,7 @@ pub record IsClosed (v : View) (desc : OwnDesc) (k : Ended) : Type 0 where
   pub result : HasEnded v (own_ref v desc.number) k
   pub entry : FailsWithin (length desc.entries) k
 
-abbrev pub Leads : Shape → View → (opens : Option OwnDesc) → Outcome → Type 0
+abbrev pub Leads : Shape → View → (opens : Option OwnDesc) → StageOutcome → Type 0
 Leads z v opens (On w) = KnowsOwn v opens × Stands z v w
 Leads z v opens Over = KnowsOwn v None × OwesNothing v × (opens ≡ None)
 Leads z v opens (Closed k) = (d : OwnDesc) × (opens ≡ Some d) × IsClosed v d k
@@ -252,7 +252,7 @@ abbrev pub ReleasesLast : Work → Type 0
 ReleasesLast w = (g : Goal) × (w ≡ work.Release g) × (g.task.entry + 1 ≡ g.task.size)
 
 -- Where marks are left, nothing else ends the work, but that the descriptor is stale.
-abbrev pub MayEnd : View → Work → Outcome → Type 0
+abbrev pub MayEnd : View → Work → StageOutcome → Type 0
 MayEnd next w (On on) = Unit {0}
 MayEnd next w Over = ReleasesLast w ⊎ In (stale (ref_of (desc_of w))) next.side.facts
 MayEnd next w (Closed k) = ReleasesLast w

@@ -9,13 +9,13 @@ ghost use Rattle.rh_helping.specs.Next.{Work};
 ghost use Rattle.rh_helping.specs.Requested.{FollowsDecide};
 ghost use Rattle.rh_helping.specs.Stepping.{ComesTo, HasGoneOn, MayGoOn};
 ghost use Rattle.rh_helping.specs.Work.{desc_of};
-ghost use Rattle.rh_steps.specs.Relies.{Trusts};
+ghost use Rattle.rh_carrier.specs.Relies.{Trusts};
 
 use crate::goal::{OpenDesc, Task};
 use crate::machine::{At, Machine, Progress};
 use crate::reading::state_told;
 use crate::stage::Stage;
-use rh_steps::Steps;
+use rh_carrier::Steps;
 use rh_tagword::State;
 use rh_words::{Reading, Request, Shape, Side, decided_word};
 
@@ -42,7 +42,7 @@ impl<T: Steps> Stage<T> for Succeed {
         found: u64,
     ) -> Progress {
         let control = decided_word(machine.task.desc, State::Succeeded, found);
-        machine.decided(shape, table, side, opens, control)
+        machine.after_decide(shape, table, side, opens, control)
     }
 }
 
@@ -68,13 +68,13 @@ impl Machine {
         };
         let found = table.make(shape, side, Request::Decide { desc, state });
         let failed = decided_word(desc, state, found);
-        self.decided(shape, table, side, opens, failed)
+        self.after_decide(shape, table, side, opens, failed)
     }
 
     /// After a Decide of the task, which left this control: releases it, however it was decided, or
     /// leaves it where it is stale.
     #[inline(always)]
-    fn decided<T: Steps>(
+    fn after_decide<T: Steps>(
         &mut self,
         shape: &Shape,
         table: &mut T,
@@ -91,7 +91,7 @@ impl Machine {
     {
         match state_told(self.task.desc, control) {
             Some(state) => {
-                self.task = self.task.decided(state, None);
+                self.task = self.task.as_decided(state, None);
                 self.begin(shape, table, side, opens)
             }
             None => self.resume(side, opens),

@@ -65,7 +65,7 @@ impl Task {
 
     /// The same descriptor, decided so: its entries are to be released from the first one on.
     #[inline(always)]
-    pub(crate) fn decided(self, state: State, owed: Option<Owed>) -> Task
+    pub(crate) fn as_decided(self, state: State, owed: Option<Owed>) -> Task
         ensures { result ≡ record {
           desc = self.desc;
           size = self.size;

@@ -3,7 +3,7 @@
 ghost use Rattle.std.specs.Prelude.{◌≡◌, ◌⊎◌, Some, Decides, MatchOption};
 ghost use Rattle.rh_words.specs.Words.{ref_of};
 ghost use Rattle.rh_words.specs.declared.shape.Shape.{Shape};
-ghost use Rattle.rh_steps.specs.Own.{KnowsOwn, OwesNothing, open_number};
+ghost use Rattle.rh_carrier.specs.Own.{KnowsOwn, OwesNothing, open_number};
 ghost use Rattle.rh_helping.specs.Goal.{HasReason, IsMet, KnowsGoal, opened_by};
 ghost use Rattle.rh_helping.specs.Machine.{goal_of, led};
 ghost use Rattle.rh_helping.specs.Next.{Work};
@@ -15,7 +15,7 @@ ghost use Rattle.rh_world.specs.Facts.Fact.{stale};
 use crate::goal::{OpenDesc, Task};
 use crate::machine::{At, Machine, Progress};
 use crate::own_rows::{own_entry, own_size};
-use rh_steps::Steps;
+use rh_carrier::Steps;
 use rh_tagword::State;
 use rh_words::{Ref, Shape, Side};
 

@@ -8,7 +8,7 @@ use crate::machine::{At, Machine, Progress};
 use crate::reading::{CellContent, state_told, what_stands};
 use crate::settling::Settling;
 use crate::stage::Stage;
-use rh_steps::Steps;
+use rh_carrier::Steps;
 use rh_words::{Reading, Ref, Request, Shape, Side, mark_word};
 
 /// Places the mark, and goes by what stood in the cell.
@@ -190,7 +190,7 @@ impl<T: Steps> Stage<T> for Demote {
     ) -> Progress {
         match machine.told {
             Some(state) => {
-                machine.task = machine.task.decided(state, Some(machine.owed()));
+                machine.task = machine.task.as_decided(state, Some(machine.as_owed()));
                 machine.begin(shape, table, side, opens)
             }
             None => {
@@ -226,7 +226,7 @@ impl<T: Steps> Stage<T> for Recheck {
         match state_told(machine.task.desc, found) {
             Some(state) => {
                 if state.is_decided() {
-                    machine.task = machine.task.decided(state, Some(machine.owed()));
+                    machine.task = machine.task.as_decided(state, Some(machine.as_owed()));
                     machine.begin(shape, table, side, opens)
                 } else if machine.promoted {
                     machine.task = machine.task.after();

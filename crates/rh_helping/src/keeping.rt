@@ -5,8 +5,8 @@
 ghost use Rattle.std.specs.Prelude.{◌≡◌, Option};
 ghost use Rattle.rh_words.specs.Requests.{step_asked};
 ghost use Rattle.rh_words.specs.View.{OwnDesc};
-ghost use Rattle.rh_steps.specs.Own.{KnowsOwn};
-ghost use Rattle.rh_steps.specs.Relies.{Knows, Relies};
+ghost use Rattle.rh_carrier.specs.Own.{KnowsOwn};
+ghost use Rattle.rh_carrier.specs.Relies.{Knows, Relies};
 ghost use Rattle.rh_helping.specs.Keeping.{IsKept, kept};
 ghost use Rattle.rh_helping.specs.Machine.{led, work_at, work_of};
 ghost use Rattle.rh_helping.specs.Made.{HasMadeStep};
@@ -15,7 +15,7 @@ ghost use Rattle.rh_helping.specs.Work.{Leads, MayEnd, Stands, kind_of_work};
 
 use crate::machine::{At, Machine, Progress};
 use crate::mark_row::{write_mark_desc, write_mark_entry, write_mark_serial};
-use rh_steps::Steps;
+use rh_carrier::Steps;
 use rh_words::{Part, Reading, Request, Shape, Side};
 
 impl Machine {

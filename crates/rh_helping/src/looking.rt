@@ -12,7 +12,7 @@ use crate::goal::Owed;
 use crate::machine::{At, Machine, Progress};
 use crate::reading::{CellContent, what_stands};
 use crate::settling::Settling;
-use rh_steps::Steps;
+use rh_carrier::Steps;
 use rh_words::{Reading, Request, Shape, Side, StepKind};
 
 /// Which step of a worker that looks at a cell is next. What it needs is in its machine.
@@ -55,7 +55,7 @@ impl Machine {
         ensures { result ≡ held_in (looking_of looks self.now) }
     {
         match looks {
-            Watch::Help => self.held(),
+            Watch::Help => self.owed_cell(),
             _ => None,
         }
     }

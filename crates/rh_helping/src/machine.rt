@@ -165,7 +165,7 @@ impl Machine {
 
     /// The cell where an own mark stands that is not settled yet, or where its descriptor may stand
     /// by the worker's doing.
-    pub fn held(&self) -> Option<Owed>
+    pub fn owed_cell(&self) -> Option<Owed>
         ensures { result ≡ held_by (work_of self.now) }
     {
         match self.at {
@@ -176,7 +176,7 @@ impl Machine {
             | At::ReadReason
             | At::Release => self.task.owed,
             At::MarkControl | At::Promote | At::Demote | At::Recheck | At::GiveBack => {
-                Some(self.owed())
+                Some(self.as_owed())
             }
             _ => None,
         }
@@ -196,7 +196,7 @@ impl Machine {
 
     /// Its cell, as one that the worker owes.
     #[inline(always)]
-    pub(crate) fn owed(&self) -> Owed
+    pub(crate) fn as_owed(&self) -> Owed
         ensures { result ≡ owed_of (goal_of self.now) }
     {
         Owed {

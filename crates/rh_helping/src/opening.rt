@@ -5,10 +5,10 @@ ghost use Rattle.std.specs.Prelude.{◌≡◌, ◌<◌, length};
 ghost use Rattle.rh_words.specs.Requests.{step_asked};
 ghost use Rattle.rh_helping.specs.Made.{HasStepped};
 ghost use Rattle.rh_helping.specs.Opening.{IsOpening, MayOpen, OpensOn, after_opening, kind_of_opening, opened_after, opening_step};
-ghost use Rattle.rh_steps.specs.Relies.{Relies};
+ghost use Rattle.rh_carrier.specs.Relies.{Relies};
 
+use rh_carrier::Steps;
 use rh_layout::Entry;
-use rh_steps::Steps;
 use rh_words::{Part, Request, Shape, Side, StepKind};
 
 /// The next step with an own descriptor that is to be opened.

@@ -6,15 +6,15 @@ ghost use Rattle.std.specs.Prelude.{◌≡◌, ◌<◌, ◌+◌, suc, Some, IfSo
 ghost use Rattle.rh_words.specs.Parts.{cell_count, entry_row};
 ghost use Rattle.rh_words.specs.Words.{ref_of};
 ghost use Rattle.rh_helping.specs.Goal.{KnowsGoal, KnowsTask, opened_by};
-ghost use Rattle.rh_steps.specs.Relies.{Trusts};
+ghost use Rattle.rh_carrier.specs.Relies.{Trusts};
 ghost use Rattle.rh_helping.specs.Stepping.{IsBetween};
 ghost use Rattle.rh_words.specs.Steps.{IsKnown, row_word};
 ghost use Rattle.rh_world.specs.World.{In};
 ghost use Rattle.rh_world.specs.Facts.Fact.{size_is};
 
 use crate::goal::{OpenDesc, Task};
+use rh_carrier::Steps;
 use rh_layout::Entry;
-use rh_steps::Steps;
 use rh_words::{Part, Ref, Shape, Side};
 
 /// The entries of the own descriptor of this number, where it is the open one.

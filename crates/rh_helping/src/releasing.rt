@@ -9,7 +9,7 @@ ghost use Rattle.rh_tagword.specs.declared.control.State.TheVariants.{Failed};
 use crate::goal::{OpenDesc, Owed, Task};
 use crate::machine::{Ended, Machine, Progress};
 use crate::stage::Stage;
-use rh_steps::Steps;
+use rh_carrier::Steps;
 use rh_tagword::State;
 use rh_words::{Request, Shape, Side};
 
@@ -44,7 +44,7 @@ impl<T: Steps> Stage<T> for Release {
         if task.entry + 1 < task.size {
             machine.at_entry(shape, table, side, opens)
         } else if machine.is_open(side, opens) {
-            Progress::Closed(ended(task))
+            Progress::Closed(end_of(task))
         } else {
             machine.resume(side, opens)
         }
@@ -81,7 +81,7 @@ fn owed_after(owed: Option<Owed>, cell: usize) -> Option<Owed>
 
 /// How the own open descriptor ended, which is this task.
 #[inline(always)]
-fn ended(task: Task) -> Ended
+fn end_of(task: Task) -> Ended
     requires over { IsOver task.state }
     requires reason { (by : ℕ) → task.state ≡ Failed by → (e : ℕ) × (task.reason ≡ Some e) }
     ensures { result ≡ ended_as task.state task.reason }

@@ -5,15 +5,15 @@ ghost use Rattle.rh_words.specs.Requests.{step_asked};
 ghost use Rattle.rh_words.specs.View.{View};
 ghost use Rattle.rh_words.specs.declared.shape.Shape.{Shape};
 ghost use Rattle.rh_helping.specs.Requested.{FollowsSettling, SettledFrom, asked_of_mark};
-ghost use Rattle.rh_steps.specs.Own.{OwesNothing};
+ghost use Rattle.rh_carrier.specs.Own.{OwesNothing};
 ghost use Rattle.rh_helping.specs.Machine.{left_on, settling_of};
 ghost use Rattle.rh_helping.specs.Made.{HasMadeStep};
 ghost use Rattle.rh_helping.specs.Next.{Settles};
 ghost use Rattle.rh_helping.specs.Settling.{GoesOn, Grows, IsSettling, LeadsOn, kind_of_settling};
-ghost use Rattle.rh_steps.specs.Relies.{Relies};
+ghost use Rattle.rh_carrier.specs.Relies.{Relies};
 
 use crate::reading::{named_desc, state_told};
-use rh_steps::Steps;
+use rh_carrier::Steps;
 use rh_words::{Piece, Reading, Ref, Request, Shape, Side, StepKind};
 
 /// Which step with the mark is next.

@@ -11,7 +11,7 @@ ghost use Rattle.rh_helping.specs.Stepping.{ComesTo};
 
 use crate::goal::OpenDesc;
 use crate::machine::{Machine, Progress};
-use rh_steps::Steps;
+use rh_carrier::Steps;
 use rh_words::{Request, Shape, Side};
 
 pub(crate) trait Stage<T: Steps> {

@@ -13,7 +13,7 @@ use crate::holding::{Demote, MarkControl, Place, Promote, Recheck, Settle};
 use crate::machine::{At, Machine, Progress};
 use crate::releasing::{GiveBack, Release};
 use crate::stage::Stage;
-use rh_steps::Steps;
+use rh_carrier::Steps;
 use rh_words::{Shape, Side};
 
 impl Machine {

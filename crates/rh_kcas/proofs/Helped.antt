@@ -5,17 +5,17 @@ use Rattle.rh_tagword.specs.declared.control.State.TheVariants.{Unused, Undecide
 use Rattle.rh_world.specs.World.{Ref}
 use Rattle.rh_words.specs.View.{View}
 use Rattle.rh_words.specs.Words.{control_of}
-use Rattle.rh_steps.specs.Own.{IsClear}
+use Rattle.rh_carrier.specs.Own.{IsClear}
 use Rattle.rh_helping.proofs.Controls.{Saw}
 use Rattle.rh_helping.proofs.Owing.{nothing_saw}
 use Rattle.rh_helping.proofs.Starting.{own_saw}
 use Rattle.rh_swaps.specs.Swaps.{HasNoted}
-use Rattle.rh_kcas.specs.Helps.{IsNotedOver, IsTold, is_over}
+use Rattle.rh_kcas.specs.Helps.{IsNotedOver, StandsOrIsOver, is_over}
 
 pub clear_saw : (v next : View) (d : Ref) (r : Option State) → Saw v d r next → IsClear v → IsClear next
 clear_saw v next d r saw h = record { own = own_saw v next d r None saw h.own; owes = nothing_saw v next d r saw h.owes }
 
-pub told_saw : (v next : View) (d : Ref) (r : Option State) → Saw v d r next → IsTold next d r
+pub told_saw : (v next : View) (d : Ref) (r : Option State) → Saw v d r next → StandsOrIsOver next d r
 told_saw v next d None saw = saw.told.0
 told_saw v next d (Some k) saw = saw.told.stands
 
@@ -23,7 +23,7 @@ pub notes_saw : (v next : View) (d : Ref) (r : Option State) → Saw v d r next 
 notes_saw v next d r saw opening = record { worker = saw.keeps.worker; opening = opening; facts = saw.keeps.facts; opened = saw.opened; next_number = saw.keeps.next_number; reads = saw.reads; claims = saw.claims }
 
 -- a state that was told, by which the descriptor is over
-pub told_over : (v : View) (d : Ref) (r : Option State) → IsTold v d r → is_over r ≡ true → IsNotedOver v d
+pub told_over : (v : View) (d : Ref) (r : Option State) → StandsOrIsOver v d r → is_over r ≡ true → IsNotedOver v d
 told_over v d None h e = inr h
 told_over v d (Some Unused) h e = absurd h
 told_over v d (Some Undecided) h e = cc

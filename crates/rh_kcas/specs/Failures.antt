@@ -12,7 +12,7 @@ use Rattle.rh_rule.specs.Erased.{erased_read}
 use Rattle.rh_rule.specs.Rest.{Told}
 use Rattle.rh_helping.specs.Opening.{next_own}
 use Rattle.rh_helping.specs.declared.machine.Ended.TheVariants as ended
-use Rattle.rh_steps.specs.Relies.{Knows}
+use Rattle.rh_carrier.specs.Relies.{Knows}
 use Rattle.rh_swaps.specs.Swaps.{RestSpec}
 
 -- A worker of whom v was kept asked for a swap of these entries, which failed at entry e. After so many acts the entry's cell

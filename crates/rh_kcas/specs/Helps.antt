@@ -7,8 +7,8 @@ use Rattle.rh_world.specs.Facts.Fact.{decided, over}
 use Rattle.rh_words.specs.declared.shape.Shape.{Shape}
 use Rattle.rh_words.specs.View.{View}
 use Rattle.rh_words.specs.Steps.{IsKnown}
-use Rattle.rh_steps.specs.Own.{IsClear}
-use Rattle.rh_steps.specs.Relies.{Trusts}
+use Rattle.rh_carrier.specs.Own.{IsClear}
+use Rattle.rh_carrier.specs.Relies.{Trusts}
 use Rattle.rh_helping.specs.Goal.{StandsAt}
 use Rattle.rh_shared.specs.Sits.{Sits}
 use Rattle.rh_shared.specs.declared.on_table.OnTable.{OnTable}
@@ -21,9 +21,9 @@ pub record MayHelp (z : Shape) (d : Ref) (t : OnTable) (v : View) : Type 0 where
   pub known : IsKnown v.side.facts d
 
 -- d stands so, or is decided, as it is stale
-abbrev pub IsTold : View → (d : Ref) → Option State → Type 0
-IsTold v d None = In (over d) v.side.facts
-IsTold v d (Some k) = StandsAt v.side.facts d k 0
+abbrev pub StandsOrIsOver : View → (d : Ref) → Option State → Type 0
+StandsOrIsOver v d None = In (over d) v.side.facts
+StandsOrIsOver v d (Some k) = StandsAt v.side.facts d k 0
 
 abbrev pub is_over : Option State → Bool
 is_over None = true

@@ -3,17 +3,17 @@
 ghost use Rattle.std.specs.Prelude.{◌≡◌};
 ghost use Rattle.rh_words.specs.Steps.{IsKnown};
 ghost use Rattle.rh_words.specs.Words.{ref_of};
-ghost use Rattle.rh_steps.specs.Own.{IsClear};
+ghost use Rattle.rh_carrier.specs.Own.{IsClear};
 ghost use Rattle.rh_shared.specs.Rests.{SeatRests, StaysAtRest};
 ghost use Rattle.rh_swaps.specs.Swaps.{HasNoted};
-ghost use Rattle.rh_kcas.specs.Helps.{HasHelped, IsTold, MayHelp, is_over};
+ghost use Rattle.rh_kcas.specs.Helps.{HasHelped, StandsOrIsOver, MayHelp, is_over};
 ghost use Rattle.rh_shared.specs.Seats.{view_of};
 ghost use Rattle.rh_shared.specs.Sits.{StaysTrusted};
 ghost use Rattle.rh_rule.specs.Rest.{made};
 
+use rh_carrier::Steps;
 use rh_helping::{Machine, Progress, state_told};
 use rh_shared::{OnTable, Seat, Table};
-use rh_steps::Steps;
 use rh_tagword::State;
 use rh_words::{Reading, Ref, Request, Shape, Side};
 use std::sync::Wait;
@@ -65,7 +65,7 @@ fn state(shape: &Shape, here: &mut OnTable, side: &mut Side, desc: Ref) -> Optio
     requires { MayHelp shape.now (ref_of desc) here.old side.old.known.view }
     ensures stays { StaysTrusted shape.now here.old here.new side.new.known.view }
     ensures clear { IsClear side.new.known.view }
-    ensures told { IsTold side.new.known.view (ref_of desc) result }
+    ensures told { StandsOrIsOver side.new.known.view (ref_of desc) result }
     ensures facts { HasNoted side.old.known.view side.new.known.view }
 {
     let word = here.make(shape, side, Request::Read(Reading::Control(desc)));

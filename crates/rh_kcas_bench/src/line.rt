@@ -17,7 +17,7 @@ pub struct Line {
 }
 
 /// What these words ask for, the program's name left out, or none where they are not understood.
-pub fn asked(words: &[String]) -> Option<Line> {
+pub fn parse_line(words: &[String]) -> Option<Line> {
     let (first, timed) = match words.len() {
         4 => (words, false),
         5 if words[4].as_str() == "timed" => (words, true),

@@ -5,7 +5,7 @@ use Rattle.rh_words.specs.declared.reference.Ref.{Ref as Reference}
 use Rattle.rh_words.specs.declared.shape.Shape.{Shape}
 use Rattle.rh_words.specs.View.{View}
 use Rattle.rh_words.specs.Words.{ref_of}
-use Rattle.rh_steps.specs.Own.{IsClear}
+use Rattle.rh_carrier.specs.Own.{IsClear}
 use Rattle.rh_helping.proofs.Growing.{seen_sub}
 use Rattle.rh_swaps.specs.Swaps.{HasNoted}
 use Rattle.rh_rdcss.specs.Placing.{HasEntry}

@@ -14,7 +14,7 @@ use Rattle.rh_helping.proofs.Growing.{clear_grows}
 use Rattle.rh_helping.proofs.Looks.{cell_grows}
 use Rattle.rh_helping.proofs.Rows.{grows_read, serial_grows}
 use Rattle.rh_words.specs.View.{View}
-use Rattle.rh_steps.specs.Relies.{Knows}
+use Rattle.rh_carrier.specs.Relies.{Knows}
 use Rattle.rh_rdcss.specs.Calls.{HasStatus, Learned}
 use Rattle.rh_rdcss.specs.Placing.{LengthSays}
 use Rattle.rh_rdcss.proofs.MarksMet.{control_told}

@@ -8,7 +8,7 @@ use Rattle.rh_shared.specs.Seats.{IsHere, view_of}
 use Rattle.rh_rdcss.specs.Placing.{HasEntry, IsMine, MayPlace}
 use Rattle.rh_shared.specs.declared.seat.Seat.{Seat}
 use Rattle.rh_shared.specs.declared.table.Table.{Table}
-use Rattle.rh_steps.specs.Relies.{Knows}
+use Rattle.rh_carrier.specs.Relies.{Knows}
 
 -- no own mark is unsettled
 pub record IsSettled (t : Table) (s : Seat) : Type 0 where

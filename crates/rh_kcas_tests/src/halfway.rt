@@ -3,12 +3,12 @@
 
 ghost use Rattle.std.specs.Prelude.{◌≡◌, ◌<◌, IsTrue, IfSome, Some};
 ghost use Rattle.rh_words.specs.Steps.{AreEntries};
-ghost use Rattle.rh_steps.specs.Own.{KnowsOwn, OwesNothing};
+ghost use Rattle.rh_carrier.specs.Own.{KnowsOwn, OwesNothing};
 ghost use Rattle.rh_helping.specs.Goal.{opened_by};
 ghost use Rattle.rh_kcas_tests.specs.Halfway.{IsIdle, IsHalfway};
 ghost use Rattle.rh_shared.specs.Seats.{view_of};
 ghost use Rattle.rh_shared.specs.Sits.{Sits, Stays};
-ghost use Rattle.rh_steps.specs.Relies.{Trusts};
+ghost use Rattle.rh_carrier.specs.Relies.{Trusts};
 
 use rh_helping::{At, Ended, Machine, OpenDesc, Progress};
 use rh_kcas::{Seat, Table, carry_out, open};

@@ -6,7 +6,7 @@ ghost use Rattle.rh_words.specs.Words.{ref_of};
 ghost use Rattle.rh_shared.specs.Rests.{SeatKnows, SeatRests};
 ghost use Rattle.rh_kcas_tests.specs.Stale.{HasMet, HasSeen};
 ghost use Rattle.rh_shared.specs.Seats.{IsHere, view_of};
-ghost use Rattle.rh_steps.specs.Relies.{Knows};
+ghost use Rattle.rh_carrier.specs.Relies.{Knows};
 
 use crate::halfway::{go_on, stop_halfway};
 use crate::tables::*;

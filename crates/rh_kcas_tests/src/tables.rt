@@ -4,7 +4,7 @@ ghost use Rattle.std.specs.Prelude.{◌≡◌, ◌<◌, ◌≤◌, ℕ, [], IfOk
 ghost use Rattle.rh_shared.specs.Rests.{SeatKnows, SeatRests, StaysAtRest};
 ghost use Rattle.rh_kcas_tests.specs.Rooms.{AreRooms};
 ghost use Rattle.rh_shared.specs.Seats.{IsHere, view_of};
-ghost use Rattle.rh_steps.specs.Relies.{Knows};
+ghost use Rattle.rh_carrier.specs.Relies.{Knows};
 ghost use Rattle.rh_tagword.specs.Word.{IsValue};
 ghost use Rattle.rh_world.specs.World.{In};
 

@@ -10,7 +10,7 @@ use Rattle.rh_key_files.specs.declared.stream.State.TheVariants.{Open, Ended, Fa
 use Rattle.rh_key_files.specs.declared.header.Header.{Header}
 use Rattle.rh_bytes.specs.Input.{◌>>=◌, end_at, many_at}
 use Rattle.rh_key_files.specs.Reading.{KeysFail, ReadsKeys, count_in_header, front_of, header_at, keys_at, batch_at, after_header, keys_ended, file_keys, is_silent, key_at}
-use Rattle.rh_key_files.specs.Source.{Gives, ComesFrom, FaultComes, HasCount, keys_in, keys_of_file, keys_then}
+use Rattle.rh_key_files.specs.Source.{Gives, ComesFrom, FaultComes, HasCount, keys_alone, keys_of_file, keys_then}
 use Rattle.rh_key_files.specs.Stream.{answer_again, coming_in, keys_to_end, state_after}
 use Rattle.rh_bytes.proofs.Reading.{Fails-so, Fails-then, with_front}
 use Rattle.rh_key_files.proofs.Next.{none_left, some_left}
@@ -26,7 +26,7 @@ Read = Result (List ℕ × List ℕ) KeyFault
 fails_itself : (e : KeyFault) → KeysFail {X = List ℕ} e (Err e)
 fails_itself e = Fails-so is_silent e (Err e) refl
 
-keys_fail : (e : KeyFault) (r : Read) → KeysFail e r → KeysFail e (keys_in r)
+keys_fail : (e : KeyFault) (r : Read) → KeysFail e r → KeysFail e (keys_alone r)
 keys_fail e r h = Fails-then is_silent e r (λ keys. Ok keys.0) h
 
 -- ---- the keys of a batch, and then the others
@@ -35,11 +35,11 @@ in_two : (version : Version) (index left many : ℕ) (bytes : List ℕ) → many
 in_two version index left many bytes whole =
     ap (λ n. keys_at version index n bytes) (sym whole) ∙ many_at-add (key_at version) index many (left - many) bytes
 
-end_last : (front keys : List ℕ) (r : Read) → keys_in (r >>= (λ end. Ok (front ++ keys, end.1))) ≡ keys_then front (keys_in (r >>= (λ end. Ok (keys, end.1))))
+end_last : (front keys : List ℕ) (r : Read) → keys_alone (r >>= (λ end. Ok (front ++ keys, end.1))) ≡ keys_then front (keys_alone (r >>= (λ end. Ok (keys, end.1))))
 end_last front keys (Ok p) = refl
 end_last front keys (Err e) = refl
 
-front_first : (front : List ℕ) (r : Read) → keys_in ((r >>= with_front front) >>= keys_ended) ≡ keys_then front (keys_in (r >>= keys_ended))
+front_first : (front : List ℕ) (r : Read) → keys_alone ((r >>= with_front front) >>= keys_ended) ≡ keys_then front (keys_alone (r >>= keys_ended))
 front_first front (Ok p) = end_last front p.0 (end_at Long p.1)
 front_first front (Err e) = refl
 
@@ -53,20 +53,20 @@ batch_fault version index (suc left) room bytes e h =
     let both : List ℕ × List ℕ → Read = and_next (key_at version) (index + many) (suc left - many) in
     let fails : KeysFail e first = subst (KeysFail e) (some_left version index (suc left) room many bytes (omega arith) refl) h in
     let whole : many + (suc left - many) ≡ suc left = omega arith in
-    subst (λ r. KeysFail e (keys_in (r >>= keys_ended))) (sym (in_two version index (suc left) many bytes whole))
+    subst (λ r. KeysFail e (keys_alone (r >>= keys_ended))) (sym (in_two version index (suc left) many bytes whole))
     (keys_fail e ((first >>= both) >>= keys_ended) (Fails-then is_silent e (first >>= both) keys_ended (Fails-then is_silent e first both fails)))
 
 no_batch : (version : Version) (index left room : ℕ) (bytes keys rest : List ℕ) → left ≡ 0 → batch_at version index left room bytes ≡ Ok (keys, rest) → keys_to_end version index left bytes ≡ Ok []
 unfolding many_at
 no_batch version index left room bytes keys rest none h =
     let end : end_at Long bytes ≡ Ok (keys, rest) = sym (none_left version index left room bytes none) ∙ h in
-    ap (λ n. keys_to_end version index n bytes) none ∙ ap (λ (r : Read). keys_in (r >>= (λ end. Ok ([], end.1)))) end
+    ap (λ n. keys_to_end version index n bytes) none ∙ ap (λ (r : Read). keys_alone (r >>= (λ end. Ok ([], end.1)))) end
 
 one_batch : (version : Version) (index left room many : ℕ) (bytes keys rest : List ℕ) → 0 < left → many ≡ min room left → batch_at version index left room bytes ≡ Ok (keys, rest) → keys_to_end version index left bytes ≡ keys_then keys (keys_to_end version (index + many) (left - many) rest)
 one_batch version index left room many bytes keys rest some is h =
     let first : keys_at version index many bytes ≡ Ok (keys, rest) = sym (some_left version index left room many bytes some is) ∙ h in
     let whole : many + (left - many) ≡ left = omega (arith, is) in
-    ap (λ (r : Read). keys_in (r >>= keys_ended)) (in_two version index left many bytes whole ∙ ap (λ (r : Read). r >>= and_next (key_at version) (index + many) (left - many)) first)
+    ap (λ (r : Read). keys_alone (r >>= keys_ended)) (in_two version index left many bytes whole ∙ ap (λ (r : Read). r >>= and_next (key_at version) (index + many) (left - many)) first)
     ∙ front_first keys (keys_at version (index + many) (left - many) rest)
 
 -- ---- a stream
@@ -120,7 +120,7 @@ unfolding file_keys
 does_not_come None e h = tt
 does_not_come (Some x) e h = keys_fail e (header_at x >>= after_header) (Fails-then is_silent e (header_at x) after_header h)
 
-keys_told : (r : Read) (keys : List ℕ) → keys_in r ≡ Ok keys → (p : List ℕ × List ℕ) × (r ≡ Ok p) × (p.0 ≡ keys)
+keys_told : (r : Read) (keys : List ℕ) → keys_alone r ≡ Ok keys → (p : List ℕ × List ℕ) × (r ≡ Ok p) × (p.0 ≡ keys)
 keys_told (Ok p) keys h = (p, refl, ap (λ (r : Result (List ℕ) KeyFault). elim r [ Ok k ↦ k | Err e ↦ p.0 ]) h)
 keys_told (Err e) keys h = absurd cc
 
@@ -129,7 +129,7 @@ unfolding file_keys
 counts header None b h = tt
 counts header (Some x) None h = absurd h
 counts header (Some x) (Some y) h = λ keys is.
-    let here : keys_in (keys_at header.version 0 header.count y >>= keys_ended) ≡ Ok keys = rw h at is in
+    let here : keys_alone (keys_at header.version 0 header.count y >>= keys_ended) ≡ Ok keys = rw h at is in
     let p = keys_told (keys_at header.version 0 header.count y >>= keys_ended) keys here in
     let t = then_ok (keys_at header.version 0 header.count y) keys_ended p.0 p.1 in
     let u = then_ok (end_at Long t.0.1) (λ end. Ok (t.0.0, end.1)) p.0 t.2 in

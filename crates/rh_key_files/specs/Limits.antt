@@ -17,10 +17,10 @@ abbrev pub header_bytes : ℕ
 header_bytes = magic_bytes + 8
 
 -- What a call tells says that no read failed. A key out of range does not: it may stand in a part before a failed read.
-abbrev pub NoReadFailed : Option KeyFault → Type 0
-NoReadFailed (Some Read) = ⊥
-NoReadFailed (Some (BadKey index)) = ⊥
-NoReadFailed fault = Unit {0}
+abbrev pub NoKeyReadFailed : Option KeyFault → Type 0
+NoKeyReadFailed (Some Read) = ⊥
+NoKeyReadFailed (Some (BadKey index)) = ⊥
+NoKeyReadFailed fault = Unit {0}
 
 -- of a header, by its fault
 abbrev pub header_taken : Option KeyFault → ℕ

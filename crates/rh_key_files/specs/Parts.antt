@@ -9,7 +9,7 @@ use Rattle.rh_key_files.specs.declared.fault.KeyFault.{KeyFault}
 use Rattle.rh_key_files.specs.declared.fault.KeyFault.TheVariants.{Memory, Read}
 use Rattle.rh_key_files.specs.declared.header.Header.{Header}
 use Rattle.rh_key_files.specs.declared.version.Version.{Version}
-use Rattle.rh_key_files.specs.Limits.{NoReadFailed}
+use Rattle.rh_key_files.specs.Limits.{NoKeyReadFailed}
 use Rattle.rh_key_files.specs.Reading.{CutShort, ReadsKeys, TakesGoodKeys, is_silent, keys_at}
 
 -- a part of the header
@@ -21,7 +21,7 @@ ReadsHead bytes_of old new reading view most r = ReadsPart bytes_of is_silent Re
 pub record ReadsList {R X Y : Type 0} (bytes_of : R → Option (List ℕ)) (old new : Counted R) (reading : List ℕ → Result (Y × List ℕ) KeyFault) (view : X → Y) (most : ℕ) (r : Result X KeyFault) : Type 0 where
   pub known : ReadsKeys (bytes_of (inner_of old)) (bytes_of (inner_of new)) reading view r
   pub takes : TakesAtMost (bytes_of (inner_of old)) (bytes_of (inner_of new)) most
-  pub counts : Counts (IsErrOf r Read) (NoReadFailed (fault_of r)) old new
+  pub counts : Counts (IsErrOf r Read) (NoKeyReadFailed (fault_of r)) old new
 
 -- n keys, of which the first has this index. Where a failed read is told, the keys before it were tested. Want of memory is not told.
 pub record ReadsRun {R X : Type 0} (bytes_of : R → Option (List ℕ)) (old new : Counted R) (version : Version) (index n : ℕ) (view : X → List ℕ) (most : ℕ) (r : Result X KeyFault) : Type 0 where
@@ -35,7 +35,7 @@ pub record ReadsRun {R X : Type 0} (bytes_of : R → Option (List ℕ)) (old new
 pub record ReadsWholeList {R X : Type 0} (bytes_of : R → Option (List ℕ)) (old new : Counted R) (header_in : List ℕ → Result (Header × List ℕ) KeyFault) (reading : List ℕ → Result (List ℕ × List ℕ) KeyFault) (Takes : (old new : Option (List ℕ)) → Option KeyFault → Type 0) (view : X → List ℕ) (r : Result X KeyFault) : Type 0 where
   pub known : ReadsKeys (bytes_of (inner_of old)) (bytes_of (inner_of new)) reading view r
   pub takes : Takes (bytes_of (inner_of old)) (bytes_of (inner_of new)) (fault_of r)
-  pub counts : Counts (IsErrOf r Read) (NoReadFailed (fault_of r)) old new
+  pub counts : Counts (IsErrOf r Read) (NoKeyReadFailed (fault_of r)) old new
   pub memory : IsErrOf r Memory → BeginsWith header_in (bytes_of (inner_of old))
   pub tested : IsErrOf r Read → TakesGoodKeys header_in (bytes_of (inner_of old)) (bytes_of (inner_of new))
   pub tested_too : IsErrOf r Memory → TakesGoodKeys header_in (bytes_of (inner_of old)) (bytes_of (inner_of new))

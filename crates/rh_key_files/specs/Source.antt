@@ -9,12 +9,12 @@ abbrev pub Coming : Type 0
 Coming = Option (Result (List ℕ) KeyFault)
 
 -- the keys of a step of reading, without the bytes after them
-abbrev pub keys_in : Result (List ℕ × List ℕ) KeyFault → Result (List ℕ) KeyFault
-keys_in read = read >>= (λ keys. Ok keys.0)
+abbrev pub keys_alone : Result (List ℕ × List ℕ) KeyFault → Result (List ℕ) KeyFault
+keys_alone read = read >>= (λ keys. Ok keys.0)
 
 -- the keys of a whole file, or its first fault
 abbrev pub keys_of_file : List ℕ → Result (List ℕ) KeyFault
-keys_of_file bytes = keys_in (file_keys bytes)
+keys_of_file bytes = keys_alone (file_keys bytes)
 
 -- these keys, and then what comes after them
 abbrev pub keys_then : List ℕ → Result (List ℕ) KeyFault → Result (List ℕ) KeyFault

@@ -15,7 +15,7 @@ use Rattle.rh_bytes.specs.Taking.{TakesAtMost}
 use Rattle.rh_key_files.specs.Limits.{batch_bytes, header_bytes}
 use Rattle.rh_key_files.specs.Parts.{ReadsList}
 use Rattle.rh_key_files.specs.Reading.{CutShort, ReadsKeys, batch_at, front_of, header_at, keys_at, keys_ended}
-use Rattle.rh_key_files.specs.Source.{Coming, ComesFrom, HasCount, keys_in}
+use Rattle.rh_key_files.specs.Source.{Coming, ComesFrom, HasCount, keys_alone}
 
 -- the reader that the stream took on loan
 abbrev pub reader_of : {R : Type 0} → KeyStream R → Counted R
@@ -86,7 +86,7 @@ ReadsHeader remaining old (Err e) = ReadsKeys (remaining old) None header_at (λ
 
 -- n keys, of which the first has this index, and then the end
 abbrev pub keys_to_end : Version → ℕ → ℕ → List ℕ → Result (List ℕ) KeyFault
-keys_to_end version index n bytes = keys_in (keys_at version index n bytes >>= keys_ended)
+keys_to_end version index n bytes = keys_alone (keys_at version index n bytes >>= keys_ended)
 
 -- what is to come, of which an open stream would read this
 abbrev pub coming_in : State → Coming → Coming

@@ -43,7 +43,7 @@ impl<R: Read> KeyStream<'_, R> {
     ghost use Rattle.std.specs.Prelude.{All, take, drop};
     ghost use Rattle.rh_layout.specs.Key.{IsKey};
     ghost use Rattle.rh_bytes.specs.Counting.{Rose, failures_of};
-    ghost use Rattle.rh_key_files.specs.Limits.{NoReadFailed};
+    ghost use Rattle.rh_key_files.specs.Limits.{NoKeyReadFailed};
     ghost use Rattle.rh_bytes.specs.Input.{fault_of};
     ghost use Rattle.rh_key_files.specs.Stream.{GivesBatch, StaysOver, count_of, header_of};
     ghost use Rattle.rh_key_files.specs.Stream.{lender_of, reader_of, state_of};
@@ -83,7 +83,7 @@ impl<R: Read> KeyStream<'_, R> {
             (state_of self.old ≡ State.Failed KeyFault.Read)
             ⊎ Rose (failures_of (reader_of self.old)) (failures_of (reader_of self.new)) }
         ensures no_memory { IsErrOf result KeyFault.Memory → ⊥ }
-        ensures fine { NoReadFailed (fault_of result) →
+        ensures fine { NoKeyReadFailed (fault_of result) →
             failures_of (reader_of self.new) ≡ failures_of (reader_of self.old) }
     {
         match self.state {

@@ -4,7 +4,7 @@ ghost use Rattle.std.specs.Prelude.{◌≡◌, IsErrOf};
 ghost use Rattle.std.specs.List.{flat_map};
 ghost use Rattle.rh_bytes.specs.Counting.{Counts, Emits, WritesLast, inner_of};
 ghost use Rattle.rh_key_files.specs.Reading.{BeginsWithLongHeader, TakesGoodKeys, long_header_at};
-ghost use Rattle.rh_key_files.specs.Limits.{NoReadFailed, TakesOfLongFile};
+ghost use Rattle.rh_key_files.specs.Limits.{NoKeyReadFailed, TakesOfLongFile};
 ghost use Rattle.rh_numbers.specs.Writing.{text_of};
 ghost use Rattle.rh_key_texts.specs.List.{Lists, list_fault_in};
 
@@ -63,7 +63,7 @@ pub fn list_keys<R: Read, W: Write>(
     ensures takes { TakesOfLongFile (R.remaining (inner_of reader.old))
         (R.remaining (inner_of reader.new)) (list_fault_in result) }
     ensures counts { Counts (IsErrOf result (ListFault.Keys KeyFault.Read))
-        (NoReadFailed (list_fault_in result)) reader.old reader.new }
+        (NoKeyReadFailed (list_fault_in result)) reader.old reader.new }
     ensures tested { IsErrOf result (ListFault.Keys KeyFault.Read) → TakesGoodKeys long_header_at
         (R.remaining (inner_of reader.old)) (R.remaining (inner_of reader.new)) }
     ensures memory { IsErrOf result (ListFault.Keys KeyFault.Memory) →

@@ -2,7 +2,7 @@
 
 ghost use Rattle.std.specs.Prelude.{◌≡◌, ◌≢◌, IfErr, IsErrOf};
 ghost use Rattle.rh_bytes.specs.Counting.{Counts, WritesLast, inner_of};
-ghost use Rattle.rh_numbers.specs.Reading.{NoReadFailed, TakesFew, TakesFewParts, TakesToFault};
+ghost use Rattle.rh_numbers.specs.Reading.{NoTextReadFailed, TakesFew, TakesFewParts, TakesToFault};
 ghost use Rattle.rh_key_texts.specs.Pack.{Packs, fault_in_text};
 
 use rh_bytes::{Counted, WriteFault};
@@ -63,7 +63,7 @@ pub fn pack<R: Read, W: Write>(
     ensures memory { IsErrOf result (PackFault.Text TextFault.Memory) →
         TakesFewParts (R.remaining (inner_of reader.old)) (R.remaining (inner_of reader.new)) }
     ensures counts { Counts (IsErrOf result (PackFault.Text TextFault.Read))
-        (NoReadFailed (fault_in_text result)) reader.old reader.new }
+        (NoTextReadFailed (fault_in_text result)) reader.old reader.new }
     ensures writes { WritesLast PackFault.Write writer.old writer.new result }
 {
     let keys = read_numbers(alloc, reader)?;

@@ -18,9 +18,9 @@
 //!   (`parts_of`).
 //! - `workers_of`: as many workers as were asked for, and else at least one and no more than a run
 //!   may have.
-//! - `told`, `list_paths`: the very fault is told of a list or a file, with the path of that one
-//!   and a reason that fits; want of memory and a failed write are told by themselves, with no path
-//!   (`specs/Told.antt`).
+//! - `with_path`, `list_paths`: the very fault is told of a list or a file, with the path of that
+//!   one and a reason that fits; want of memory and a failed write are told by themselves, with no
+//!   path (`specs/Told.antt`).
 //!
 //! What real files and streams give and take no contract says.
 #![tactic(auto)]
@@ -31,7 +31,7 @@ mod splitting;
 mod status;
 mod streams;
 
-pub use lists::{bytes_of, times_named, told, workers_of};
+pub use lists::{bytes_of, times_named, with_path, workers_of};
 pub use progress::Line;
 pub use splitting::{parts_asked, plan_streams, split_streams};
 pub use status::{Fault, Reason, conclude, tell};

@@ -68,7 +68,7 @@ fn size_in(metadata: &Metadata) -> Option<u64>
 }
 
 /// The fault, with the path of its file. Want of memory and a failed write are no faults of a file.
-pub fn told(files: &impl Files, mut paths: Vec<String>, fault: CommandFault) -> Fault
+pub fn with_path(files: &impl Files, mut paths: Vec<String>, fault: CommandFault) -> Fault
     requires { IsInside (vec_len paths) fault }
     ensures ending { ending_by result ≡ ending_by_command fault }
     ensures tells { TellsCommand (map string_bytes paths.items) fault result }

@@ -8,7 +8,7 @@ use Rattle.std.proofs.lemmas.Str.Pattern.{drop_at_char}
 use Rattle.std.specs.Prelude.{nat_lt, filter, unwrap_or}
 use Rattle.std.specs.List.{slice_split, position_or_len, before_first, after_first}
 use Rattle.std.specs.Str.Pattern.{FindsCharPrefix, CutsPrefixes, IsFullyTrimmed, IsTrimStartMatches}
-use Rattle.rh_lines.specs.Lines.{is_line_feed, is_space, has_bytes, ended, lines_of, words_of}
+use Rattle.rh_lines.specs.Lines.{is_line_feed, is_space, has_bytes, without_empty_last, lines_of, words_of}
 
 -- a list in which no element passes is the one part
 split_whole : {X : Type 0} (p : X → Bool) (xs : List X) → length xs ≤ position_or_len p xs → slice_split p xs ≡ xs ∷ []
@@ -21,14 +21,14 @@ split_whole p (x ∷ xs) h =
           rw (fails, split_whole p xs (omega arith)) refl
     ]
 
-ended_more : (part : List ℕ) (parts : List (List ℕ)) → 0 < length parts → ended (part ∷ parts) ≡ part ∷ ended parts
+ended_more : (part : List ℕ) (parts : List (List ℕ)) → 0 < length parts → without_empty_last (part ∷ parts) ≡ part ∷ without_empty_last parts
 ended_more part [] h = absurd (omega arith)
 ended_more part (next ∷ parts) h = refl
 
 lines_cut : (text : List ℕ) → position_or_len is_line_feed text < length text → lines_of text ≡ before_first is_line_feed text ∷ lines_of (after_first is_line_feed text)
 unfolding lines_of
 lines_cut text at =
-    ap ended (slice_split_first is_line_feed text 0 at)
+    ap without_empty_last (slice_split_first is_line_feed text 0 at)
     ∙ ended_more (before_first is_line_feed text) (slice_split is_line_feed (after_first is_line_feed text)) (omega (arith, length-slice_split is_line_feed (after_first is_line_feed text)))
 
 no_line : lines_of [] ≡ []
@@ -38,7 +38,7 @@ no_line = refl
 one_line : (text : List ℕ) → 0 < length text → length text ≤ position_or_len is_line_feed text → lines_of text ≡ text ∷ []
 unfolding lines_of
 one_line [] some h = absurd (omega arith)
-one_line (b ∷ bs) some h = ap ended (split_whole is_line_feed (b ∷ bs) h)
+one_line (b ∷ bs) some h = ap without_empty_last (split_whole is_line_feed (b ∷ bs) h)
 
 pub no_line_left : (text : List ℕ) → length text ≡ 0 → lines_of text ≡ []
 no_line_left [] none = no_line

@@ -11,8 +11,8 @@ abbrev pub ◌>>=◌ : {A B E : Type 0} → Result A E → (A → Result B E) �
 (Err e) >>= f = Err e
 
 -- What a call answers, seen by view, is what the grammar says; want of memory says nothing of it.
-abbrev pub Answers : {X Y E : Type 0} → (memory : E) → Result Y E → (X → Y) → Result X E → Type 0
-Answers memory said view r = MatchResult r (λ x. said ≡ Ok (view x)) (λ fault. fault ≢ memory → said ≡ Err fault)
+abbrev pub AnswersExcept : {X Y E : Type 0} → (memory : E) → Result Y E → (X → Y) → Result X E → Type 0
+AnswersExcept memory said view r = MatchResult r (λ x. said ≡ Ok (view x)) (λ fault. fault ≢ memory → said ≡ Err fault)
 
 -- ---- a line
 
@@ -23,8 +23,8 @@ no_word bad said _ = Err bad
 
 -- what a line says, if anything
 -- `# a b` says nothing, `a b` what `says` makes of its two words; a line with a tab in it is bad
-unfoldable pub said_in : {A E : Type 0} → (bad : E) → (says : List (List ℕ) → Result A E) → List ℕ → Result (Option A) E
-said_in bad says line =
+unfoldable pub line_said : {A E : Type 0} → (bad : E) → (says : List (List ℕ) → Result A E) → List ℕ → Result (Option A) E
+line_said bad says line =
     if is_skipped line then Ok None
     else if list_all is_printable line then says (words_of line) >>= (λ said. Ok (Some said))
     else Err bad
@@ -54,6 +54,6 @@ abbrev pub read_by : {S E F : Type 0} → Grammar S E F → List ℕ → Result 
 read_by grammar text = after_lines grammar 1 grammar.start (lines_of text)
 
 -- the lines of a text before that of this number have no fault
-abbrev pub HasNoFaultBefore : {S E F : Type 0} → Grammar S E F → ℕ → List ℕ → Type 0
-HasNoFaultBefore grammar number text =
+abbrev pub NoFaultBefore : {S E F : Type 0} → Grammar S E F → ℕ → List ℕ → Type 0
+NoFaultBefore grammar number text =
     IsTrue (is_ok (after_lines grammar 1 grammar.start (take (number - 1) (lines_of text))))

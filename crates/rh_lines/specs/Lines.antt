@@ -18,15 +18,15 @@ has_bytes [] = false
 has_bytes (b ∷ bs) = true
 
 -- What stands after the last line feed is a line only if it has a byte.
-abbrev pub ended : List (List ℕ) → List (List ℕ)
-ended [] = []
-ended (last ∷ []) = if has_bytes last then last ∷ [] else []
-ended (part ∷ parts) = part ∷ ended parts
+abbrev pub without_empty_last : List (List ℕ) → List (List ℕ)
+without_empty_last [] = []
+without_empty_last (last ∷ []) = if has_bytes last then last ∷ [] else []
+without_empty_last (part ∷ parts) = part ∷ without_empty_last parts
 
 -- the lines, without their line feeds
 -- "#a\r\n  b c\n" has two, of which the first is skipped
 unfoldable pub lines_of : List ℕ → List (List ℕ)
-lines_of text = ended (slice_split is_line_feed text)
+lines_of text = without_empty_last (slice_split is_line_feed text)
 
 -- one carriage return at the end of a line is dropped
 unfoldable pub without_return : List ℕ → List ℕ

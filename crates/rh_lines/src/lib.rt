@@ -1,6 +1,6 @@
 //! Lines of a text, and the words of a line.
 //!
-//! Scripts (`rh_script`) and plays (`rh_play`) are cut by it, so that both have one rule. What
+//! Scripts (`rh_script`) and plays (`rh_play_text`) are cut by it, so that both have one rule. What
 //! their grammars share stands in `specs/Grammar.antt`, and in `proofs/Reading.antt` what a loop
 //! over the lines of a text keeps. It knows no fault.
 //!

@@ -30,8 +30,8 @@ Combines how output files paths input left Written =
     (lists : List (List ℕ)) × GiveEach files paths input left lists × Written (written output (answer how lists))
 
 -- Memory ran out: behind a list, and nothing was written; or behind all of them, and a front of it was.
-abbrev pub Stops : How → Output → Option Files → (paths : List (List ℕ)) → (input left old new : Option (List ℕ)) → Type 0
-Stops how output files paths input left old new = ((new ≡ old) × ReadsSome files paths input left) ⊎ Combines how output files paths input left (AppendsFront old new)
+abbrev pub StopsForMemory : How → Output → Option Files → (paths : List (List ℕ)) → (input left old new : Option (List ℕ)) → Type 0
+StopsForMemory how output files paths input left old new = ((new ≡ old) × ReadsSome files paths input left) ⊎ Combines how output files paths input left (AppendsFront old new)
 
 -- What a command came to: all was written; or the first list that has a fault is told by its place, and nothing was written; or
 -- memory or a write failed, and a front was written.
@@ -41,11 +41,11 @@ Ends how output files paths input left old new (Err (faults.List index fault)) =
     (path : List ℕ) × (mid : Option (List ℕ)) × (lists : List (List ℕ)) × (slice_get paths index ≡ Some path)
     × GiveEach files (take index paths) input mid lists × HasFault files path mid left fault × (new ≡ old)
 Ends how output files paths input left old new (Err faults.Write) = Combines how output files paths input left (AppendsFront old new)
-Ends how output files paths input left old new (Err faults.Memory) = Stops how output files paths input left old new
+Ends how output files paths input left old new (Err faults.Memory) = StopsForMemory how output files paths input left old new
 
 -- the answer where all went well
-abbrev pub ended : Result (Unit {0}) CommandFault
-ended = Ok tt
+abbrev pub went_well : Result (Unit {0}) CommandFault
+went_well = Ok tt
 
 -- This writer wrote the text, or, on a fault, a front of it; a failure is counted where a write failed, and else none.
 pub record WritesText {X W : Type 0} (contents : W → Option (List ℕ)) (text : List ℕ) (old new : Counted W) (r : Result X CombineFault) : Type 0 where

@@ -4,12 +4,12 @@ use Rattle.std.proofs.lemmas.List.{get_or-map, length-map, take_more}
 use Rattle.std.proofs.lemmas.Option.{slice_get-map, slice_get_read}
 use Rattle.rh_shelf.specs.Shelf.{Files, Finds}
 use Rattle.rh_pieces.specs.Pieces.{keys_in}
-use Rattle.rh_lists.specs.Lists.{ReadsList, list_said}
+use Rattle.rh_lists.specs.Lists.{ReadsKeyList, list_said}
 use Rattle.rh_lists.specs.declared.fault.ListFault.{ListFault}
 use Rattle.rh_pieces.specs.declared.list.KeyList.{KeyList}
-use Rattle.rh_list_files.specs.Lists.{AreNumbers, GiveEach, Gives, GivesBy, is_input}
+use Rattle.rh_list_files.specs.Lists.{AreNumbers, GiveEach, GivesNumbers, GivesBy, is_input}
 
-pub numbers_read : (old new : Option (List ℕ)) (list : KeyList) → ReadsList old new (Ok list) → AreNumbers old new (keys_in list)
+pub numbers_read : (old new : Option (List ℕ)) (list : KeyList) → ReadsKeyList old new (Ok list) → AreNumbers old new (keys_in list)
 numbers_read None new list read = tt
 numbers_read (Some bytes) None list read = read
 numbers_read (Some bytes) (Some rest) list read = read
@@ -27,9 +27,9 @@ pub inside_too : {X : Type 0} (f : X → List ℕ) (xs : List X) (i : ℕ) → i
 inside_too f xs i inside = omega (arith, inside, length-map xs f)
 
 -- one path more
-pub one_more : (files : Option Files) (paths : List (List ℕ)) (path : List ℕ) (a b c : Option (List ℕ)) (lists : List (List ℕ)) (numbers : List ℕ) → GiveEach files paths a b lists → Gives files path b c numbers
+pub one_more : (files : Option Files) (paths : List (List ℕ)) (path : List ℕ) (a b c : Option (List ℕ)) (lists : List (List ℕ)) (numbers : List ℕ) → GiveEach files paths a b lists → GivesNumbers files path b c numbers
     → GiveEach files (paths ++ path ∷ []) a c (lists ++ numbers ∷ [])
-one_more files [] path a b c [] numbers is gives = (c, subst (λ d. Gives files path d c numbers) is gives, refl)
+one_more files [] path a b c [] numbers is gives = (c, subst (λ d. GivesNumbers files path d c numbers) is gives, refl)
 one_more files (p ∷ paths) path a b c (l ∷ lists) numbers each gives = (each.0, each.1, one_more files paths path each.0 b c lists numbers each.2 gives)
 one_more files [] path a b c (l ∷ lists) numbers each gives = absurd each
 one_more files (p ∷ paths) path a b c [] numbers each gives = absurd each

@@ -12,7 +12,7 @@ use Rattle.rh_shelf.specs.declared.shelf.ShelfFault.{ShelfFault}
 use Rattle.rh_shelf.specs.declared.shelf.ShelfFault.TheVariants.{Missing, Memory, Write}
 use Rattle.rh_key_files.specs.Reading.{BeginsWithLongHeader, TakesGoodKeys, long_header_at}
 use Rattle.rh_pieces.specs.Pieces.{keys_in}
-use Rattle.rh_lists.specs.Lists.{HasBytes, TakesGoodLines, is_silent, list_said}
+use Rattle.rh_lists.specs.Lists.{HasBytes, TakesGoodLines, is_list_silent, list_said}
 use Rattle.rh_lists.specs.declared.fault.ListFault.{ListFault}
 use Rattle.rh_lists.specs.declared.fault.ListFault.TheVariants.{Text, Keys}
 use Rattle.rh_pieces.specs.declared.list.KeyList.{KeyList}
@@ -38,19 +38,19 @@ abbrev pub GivesBy : (input : Bool) → Option Files → (path : List ℕ) → (
 GivesBy true files path old new numbers = AreNumbers old new numbers
 GivesBy false files path old new numbers = HoldsFile files path numbers × (new ≡ old)
 
-abbrev pub Gives : Option Files → (path : List ℕ) → (old new : Option (List ℕ)) → List ℕ → Type 0
-Gives files path old new numbers = GivesBy (is_input path) files path old new numbers
+abbrev pub GivesNumbers : Option Files → (path : List ℕ) → (old new : Option (List ℕ)) → List ℕ → Type 0
+GivesNumbers files path old new numbers = GivesBy (is_input path) files path old new numbers
 
 -- the paths gave these lists, one after the other
 abbrev pub GiveEach : Option Files → (paths : List (List ℕ)) → (old new : Option (List ℕ)) → (lists : List (List ℕ)) → Type 0
 GiveEach files [] old new [] = new ≡ old
-GiveEach files (path ∷ paths) old new (numbers ∷ lists) = (mid : Option (List ℕ)) × Gives files path old mid numbers × GiveEach files paths mid new lists
+GiveEach files (path ∷ paths) old new (numbers ∷ lists) = (mid : Option (List ℕ)) × GivesNumbers files path old mid numbers × GiveEach files paths mid new lists
 GiveEach files paths old new lists = ⊥
 
 -- the bytes, where they are known, are no list, and this is the first fault in them
 abbrev pub IsFirstFault : (bytes : Option (List ℕ)) → ListFault → Type 0
 IsFirstFault None fault = Unit {0}
-IsFirstFault (Some bytes) fault = Unless (is_silent fault) (list_said bytes ≡ Err fault)
+IsFirstFault (Some bytes) fault = Unless (is_list_silent fault) (list_said bytes ≡ Err fault)
 
 -- The first fault in the bytes. A text is too long only where it has so many, and want of memory for a key file comes only behind a
 -- header that can be read.
@@ -118,7 +118,7 @@ pub record AnswersFile (old new : ShelfState) (path : List ℕ) (r : Result KeyL
 
 -- The same of a path, which may stand for the input that this reader gives.
 pub record AnswersPath {I : Type 0} (remaining : I → Option (List ℕ)) (old new : ShelfState) (path : List ℕ) (before after : Counted I) (r : Result KeyList FileFault) : Type 0 where
-  pub read : MatchResult r (λ list. Gives old.files path (remaining (inner_of before)) (remaining (inner_of after)) (keys_in list)) (HasFault old.files path (remaining (inner_of before)) (remaining (inner_of after)))
+  pub read : MatchResult r (λ list. GivesNumbers old.files path (remaining (inner_of before)) (remaining (inner_of after)) (keys_in list)) (HasFault old.files path (remaining (inner_of before)) (remaining (inner_of after)))
   pub blamed : IfErr r (BlamesAt old new path (Rose (failures_of before) (failures_of after)))
   pub fine : OnOk r (new ≡ old)
   pub input_fine : OnOk r (failures_of after ≡ failures_of before)

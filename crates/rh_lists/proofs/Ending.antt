@@ -14,7 +14,7 @@ use Rattle.rh_numbers.specs.Reading.{Said, text_said, with_line}
 use Rattle.rh_numbers.proofs.Spelling.{at_end}
 use Rattle.rh_pieces.specs.declared.list.KeyList.{KeyList}
 use Rattle.rh_pieces.specs.Pieces.{keys_in}
-use Rattle.rh_lists.specs.Parts.{IsTold, Refuses}
+use Rattle.rh_lists.specs.Parts.{TellsText, Refuses}
 
 module _ (bytes keys : List ℕ) (lines : ℕ) (end : ChunkEnd) (read : ReadsTo Start bytes keys lines end) where
   pub bad_line_said : (bad : BadLine) (rest : List ℕ) → end ≡ Bad bad → text_said (bytes ++ rest) ≡ (keys, Some (in_line (1 + lines) bad))
@@ -41,6 +41,6 @@ module _ (bytes keys : List ℕ) (lines : ℕ) (end : ChunkEnd) (read : ReadsTo 
 
 -- one key more, unless there is no memory for it
 pub key_told : (said : Said) (keys : List ℕ) (key : ℕ) (r : Result KeyList TextFault) → IfOk r (λ more. keys_in more ≡ keys ++ (key ∷ [])) → IfErr r (λ fault. fault ≡ texts.Memory)
-    → said ≡ (keys ++ (key ∷ []), None) → IsTold said r
+    → said ≡ (keys ++ (key ∷ []), None) → TellsText said r
 key_told said keys key (Ok more) ok err h = h ∙ ap (λ k. (k, None)) (sym ok)
 key_told said keys key (Err fault) ok err h = subst (Refuses said) (sym err) tt

@@ -9,7 +9,7 @@ use Rattle.rh_numbers.specs.declared.line_so_far.LineSoFar.TheVariants.{Start}
 use Rattle.rh_numbers.specs.Chunks.{EndsLine, ReadsTo, goes_on, last_of}
 use Rattle.rh_numbers.specs.Reading.{said_from}
 use Rattle.rh_numbers.proofs.Chunks.{last_of_rest}
-use Rattle.rh_lists.specs.Parts.{IsPartOf, IsReadTo, said_last, so_far_of}
+use Rattle.rh_lists.specs.Parts.{IsPartOf, IsReadTo, said_last, end_of_part}
 use Rattle.rh_lists.specs.declared.part.Part.{Part}
 
 module _ (so_far : LineSoFar) (front back keys : List ℕ) (lines : ℕ) (end : ChunkEnd) (first : ReadsTo so_far front keys lines end) where
@@ -36,12 +36,12 @@ starts_anew (Bad bad) is = refl
 -- both parts are read apart, and joined
 pub both_read : {E : Type 0} (so_far : LineSoFar) (bytes front back : List ℕ) (at : ℕ) (first second : Part) (r : Result Part E) → front ≡ take at bytes → back ≡ drop at bytes → front ++ back ≡ bytes → 0 < at → at < length bytes
     → slice_index bytes (at - 1) ≡ 10 → IsPartOf so_far front first → IsPartOf Start back second
-    → IfOk r (λ both. (so_far : LineSoFar) (front back : List ℕ) → IsReadTo so_far front first → IsReadTo (so_far_of first) back second → IsReadTo so_far (front ++ back) both)
+    → IfOk r (λ both. (so_far : LineSoFar) (front back : List ℕ) → IsReadTo so_far front first → IsReadTo (end_of_part first) back second → IsReadTo so_far (front ++ back) both)
     → IfOk r (λ both. both.lines ≤ first.lines + second.lines) → IfOk r (λ both. EndsLine second.end → EndsLine both.end) → IfOk r (IsPartOf so_far bytes)
 both_read so_far bytes front back at first second (Err e) before behind all some inside feed one other read lines ends = tt
 both_read so_far bytes front back at first second (Ok both) before behind all some inside feed one other read lines ends =
     let ended : last_of front ≡ 10 = ap last_of before ∙ last_of_front bytes at some (omega (arith, inside)) feed in
-    let anew : so_far_of first ≡ Start = starts_anew first.end (one.whole ended) in
+    let anew : end_of_part first ≡ Start = starts_anew first.end (one.whole ended) in
     record {
       read = subst (λ l. IsReadTo so_far l both) all (read so_far front back one.read (subst (λ s. IsReadTo s back second) (sym anew) other.read));
       lines = omega (arith, lines, one.lines, other.lines, ap length all, length-append front back);

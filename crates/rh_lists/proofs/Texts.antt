@@ -14,7 +14,7 @@ use Rattle.rh_pieces.specs.declared.list.KeyList.{KeyList}
 use Rattle.rh_lists.specs.declared.part.Part.{Part}
 use Rattle.rh_pieces.specs.Pieces.{keys_in}
 use Rattle.rh_lists.specs.Lists.{HasBytes, HasNoFault, TakesNoFault}
-use Rattle.rh_lists.specs.Parts.{IsOpen, IsReadTo, IsTold, ReadsText, Refuses}
+use Rattle.rh_lists.specs.Parts.{IsOpen, IsReadTo, TellsText, ReadsTextList, Refuses}
 
 -- All that was read of what comes behind these bytes, but for the last block, is read to the text so far.
 pub record Going (begun : List ℕ) (start now : Option (List ℕ)) (text : Part) (block : List ℕ) : Type 0 where
@@ -41,7 +41,7 @@ going_on begun a b c block next text more going comes step = record {
 
 -- the block has the first fault
 pub block_refused : (begun : List ℕ) (a b c : Option (List ℕ)) (block : List ℕ) (text : Part) (fault : TextFault) → Going begun a b text block
-    → ((before rest : List ℕ) → IsReadTo Start before text → Refuses (text_said ((before ++ block) ++ rest)) fault) → ReadsText begun a c (Err fault)
+    → ((before rest : List ℕ) → IsReadTo Start before text → Refuses (text_said ((before ++ block) ++ rest)) fault) → ReadsTextList begun a c (Err fault)
 block_refused begun None b c block text fault going stop = tt
 block_refused begun (Some xs) None c block text fault going stop = absurd going.taken
 block_refused begun (Some xs) (Some ys) c block text fault going stop =
@@ -50,33 +50,33 @@ block_refused begun (Some xs) (Some ys) c block text fault going stop =
 
 -- what the last bytes of a text are told to say, behind which nothing comes, or a read failed
 abbrev pub TellsLast : Part → (last : List ℕ) → Bool → Result KeyList TextFault → Type 0
-TellsLast text last failed r = (before rest : List ℕ) → IsReadTo Start before text → (IsFalse failed → rest ≡ []) → IsTold (text_said ((before ++ last) ++ rest)) r
+TellsLast text last failed r = (before rest : List ℕ) → IsReadTo Start before text → (IsFalse failed → rest ≡ []) → TellsText (text_said ((before ++ last) ++ rest)) r
 
-known : (begun xs rest : List ℕ) (failed : Bool) (r : Result KeyList TextFault) → IsTold (text_said (begun ++ xs)) r → (IsFalse failed → rest ≡ []) → OnOk r (IsFalse failed) → ReadsText begun (Some xs) (Some rest) r
+known : (begun xs rest : List ℕ) (failed : Bool) (r : Result KeyList TextFault) → TellsText (text_said (begun ++ xs)) r → (IsFalse failed → rest ≡ []) → OnOk r (IsFalse failed) → ReadsTextList begun (Some xs) (Some rest) r
 known begun xs rest failed (Ok keys) told end fine = (told, end fine)
 known begun xs rest failed (Err fault) told end fine = told
 
 pub last_read : (begun : List ℕ) (a b c : Option (List ℕ)) (block last : List ℕ) (text more : Part) (failed : Bool) (r : Result KeyList TextFault) → Going begun a b text block
-    → Consumes b c last → (IsFalse failed → IsAtEnd c) → ((before : List ℕ) → IsReadTo Start before text → IsReadTo Start (before ++ block) more) → TellsLast more last failed r → OnOk r (IsFalse failed) → ReadsText begun a c r
+    → Consumes b c last → (IsFalse failed → IsAtEnd c) → ((before : List ℕ) → IsReadTo Start before text → IsReadTo Start (before ++ block) more) → TellsLast more last failed r → OnOk r (IsFalse failed) → ReadsTextList begun a c r
 last_read begun None b c block last text more failed r going comes end step told fine = tt
 last_read begun (Some xs) None c block last text more failed r going comes end step told fine = absurd going.taken
 last_read begun (Some xs) (Some ys) None block last text more failed r going comes end step told fine = absurd comes
 last_read begun (Some xs) (Some ys) (Some zs) block last text more failed r going comes end step told fine =
     let whole : begun ++ xs ≡ ((going.before ++ block) ++ last) ++ zs =
     ap (λ l. begun ++ l) (going.taken ∙ ap (λ l. going.front ++ l) comes) ∙ sym (append_assoc begun going.front (last ++ zs)) ∙ ap (λ l. l ++ (last ++ zs)) going.whole ∙ sym (append_assoc (going.before ++ block) last zs) in
-    known begun xs zs failed r (subst (λ l. IsTold (text_said l) r) (sym whole) (told (going.before ++ block) zs (step going.before going.read) end)) end fine
+    known begun xs zs failed r (subst (λ l. TellsText (text_said l) r) (sym whole) (told (going.before ++ block) zs (step going.before going.read) end)) end fine
 
 -- the first block is the last one
 pub only_read : (begun : List ℕ) (a c : Option (List ℕ)) (last : List ℕ) (text : Part) (failed : Bool) (r : Result KeyList TextFault) → IsReadTo Start begun text
-    → Consumes a c last → (IsFalse failed → IsAtEnd c) → TellsLast text last failed r → OnOk r (IsFalse failed) → ReadsText begun a c r
+    → Consumes a c last → (IsFalse failed → IsAtEnd c) → TellsLast text last failed r → OnOk r (IsFalse failed) → ReadsTextList begun a c r
 only_read begun None c last text failed r read comes end told fine = tt
 only_read begun (Some xs) None last text failed r read comes end told fine = absurd comes
 only_read begun (Some xs) (Some zs) last text failed r read comes end told fine =
     let whole : begun ++ xs ≡ (begun ++ last) ++ zs = ap (λ l. begun ++ l) comes ∙ sym (append_assoc begun last zs) in
-    known begun xs zs failed r (subst (λ l. IsTold (text_said l) r) (sym whole) (told begun zs read end)) end fine
+    known begun xs zs failed r (subst (λ l. TellsText (text_said l) r) (sym whole) (told begun zs read end)) end fine
 
 -- the first block came from the reader, as the others do
-pub block_first : (begun : List ℕ) (a b c : Option (List ℕ)) (block : List ℕ) (r : Result KeyList TextFault) → Consumes a b block → ReadsText (begun ++ block) b c r → ReadsText begun a c r
+pub block_first : (begun : List ℕ) (a b c : Option (List ℕ)) (block : List ℕ) (r : Result KeyList TextFault) → Consumes a b block → ReadsTextList (begun ++ block) b c r → ReadsTextList begun a c r
 block_first begun None b c block r comes read = tt
 block_first begun (Some xs) None c block r comes read = absurd comes
 block_first begun (Some xs) (Some ys) c block r comes read = moved c r read
@@ -84,7 +84,7 @@ block_first begun (Some xs) (Some ys) c block r comes read = moved c r read
     whole : (begun ++ block) ++ ys ≡ begun ++ xs
     whole = append_assoc begun block ys ∙ ap (λ l. begun ++ l) (sym comes)
 
-    moved : (c : Option (List ℕ)) (r : Result KeyList TextFault) → ReadsText (begun ++ block) (Some ys) c r → ReadsText begun (Some xs) c r
+    moved : (c : Option (List ℕ)) (r : Result KeyList TextFault) → ReadsTextList (begun ++ block) (Some ys) c r → ReadsTextList begun (Some xs) c r
     moved None (Ok keys) h = absurd h
     moved (Some zs) (Ok keys) h = (ap text_said (sym whole) ∙ h.0, h.1)
     moved c (Err fault) h = subst (λ l. Refuses (text_said l) fault) whole h

@@ -54,13 +54,13 @@ OfHeldBytes texts.Read = ⊥
 OfHeldBytes texts.TooLong = ⊥
 OfHeldBytes fault = Unit {0}
 
-abbrev pub is_silent : ListFault → Bool
-is_silent (Text fault) = is_text_silent fault
-is_silent (Keys fault) = files.is_silent fault
+abbrev pub is_list_silent : ListFault → Bool
+is_list_silent (Text fault) = is_text_silent fault
+is_list_silent (Keys fault) = files.is_silent fault
 
 -- Where the bytes are known, they were read to the keys of the list that they are, and none is left; or this is their first fault.
-abbrev pub ReadsList : Option (List ℕ) → Option (List ℕ) → Result KeyList ListFault → Type 0
-ReadsList old new r = input.Reads is_silent old new list_said keys_in r
+abbrev pub ReadsKeyList : Option (List ℕ) → Option (List ℕ) → Result KeyList ListFault → Type 0
+ReadsKeyList old new r = input.Reads is_list_silent old new list_said keys_in r
 
 -- so many bytes or more, if they are known
 abbrev pub HasBytes : ℕ → Option (List ℕ) → Type 0
@@ -85,7 +85,7 @@ TakesGoodLines old new = TakesAtMost old new 3 ⊎ TakesNoFault [] old new
 -- behind good lines or keys; want of memory for a key file only behind a header and good keys; that a text is too long only of so many
 -- bytes.
 pub record AnswersList {R : Type 0} (remaining : R → Option (List ℕ)) (old new : Counted R) (r : Result KeyList ListFault) : Type 0 where
-  pub known : ReadsList (remaining (inner_of old)) (remaining (inner_of new)) r
+  pub known : ReadsKeyList (remaining (inner_of old)) (remaining (inner_of new)) r
   pub text_read : IsErrOf r (Text texts.Read) → Rose (failures_of old) (failures_of new)
   pub keys_read : IsErrOf r (Keys faults.Read) → Rose (failures_of old) (failures_of new)
   pub text_tested : IsErrOf r (Text texts.Read) → TakesGoodLines (remaining (inner_of old)) (remaining (inner_of new))
@@ -98,6 +98,6 @@ pub record AnswersList {R : Type 0} (remaining : R → Option (List ℕ)) (old n
 -- The same keys, or the same fault, unless one of the two says nothing of the bytes.
 abbrev pub Agree : Result KeyList ListFault → Result KeyList ListFault → Type 0
 Agree (Ok first) (Ok second) = keys_in first ≡ keys_in second
-Agree (Ok first) (Err fault) = is_silent fault ≡ true
-Agree (Err fault) (Ok second) = is_silent fault ≡ true
-Agree (Err fault) (Err other) = input.Unless (is_silent fault) (input.Unless (is_silent other) (fault ≡ other))
+Agree (Ok first) (Err fault) = is_list_silent fault ≡ true
+Agree (Err fault) (Ok second) = is_list_silent fault ≡ true
+Agree (Err fault) (Err other) = input.Unless (is_list_silent fault) (input.Unless (is_list_silent other) (fault ≡ other))

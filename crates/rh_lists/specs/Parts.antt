@@ -32,8 +32,8 @@ abbrev pub said_last : ChunkEnd → LineSoFar
 said_last (Open so_far) = so_far
 said_last (Bad bad) = Start
 
-abbrev pub so_far_of : Part → LineSoFar
-so_far_of part = said_last part.end
+abbrev pub end_of_part : Part → LineSoFar
+end_of_part part = said_last part.end
 
 -- no line of it is bad
 abbrev pub IsOpen : ChunkEnd → Type 0
@@ -45,28 +45,28 @@ abbrev pub Refuses : Said → TextFault → Type 0
 Refuses said fault = Unless (is_text_silent fault) (said.1 ≡ Some fault)
 
 -- What a text says is told: its keys, or its first fault.
-abbrev pub IsTold : Said → Result KeyList TextFault → Type 0
-IsTold said (Ok keys) = said ≡ (keys_in keys, None)
-IsTold said (Err fault) = Refuses said fault
+abbrev pub TellsText : Said → Result KeyList TextFault → Type 0
+TellsText said (Ok keys) = said ≡ (keys_in keys, None)
+TellsText said (Err fault) = Refuses said fault
 
 -- Where the bytes are known, the text of these bytes and all of them is told; those of a text that is too long are many.
-abbrev pub ReadsText : (begun : List ℕ) → Option (List ℕ) → Option (List ℕ) → Result KeyList TextFault → Type 0
-ReadsText begun None new r = Unit {0}
-ReadsText begun (Some bytes) new (Err fault) = Refuses (text_said (begun ++ bytes)) fault
-ReadsText begun (Some bytes) None (Ok keys) = ⊥
-ReadsText begun (Some bytes) (Some rest) (Ok keys) = (text_said (begun ++ bytes) ≡ (keys_in keys, None)) × (rest ≡ [])
+abbrev pub ReadsTextList : (begun : List ℕ) → Option (List ℕ) → Option (List ℕ) → Result KeyList TextFault → Type 0
+ReadsTextList begun None new r = Unit {0}
+ReadsTextList begun (Some bytes) new (Err fault) = Refuses (text_said (begun ++ bytes)) fault
+ReadsTextList begun (Some bytes) None (Ok keys) = ⊥
+ReadsTextList begun (Some bytes) (Some rest) (Ok keys) = (text_said (begun ++ bytes) ≡ (keys_in keys, None)) × (rest ≡ [])
 
 -- What is answered of a text that begins so, and whose rest this reader gives. A failed read is told only where one failed, behind good
 -- lines, and that a text is too long only of so many bytes.
 pub record AnswersText {R : Type 0} (remaining : R → Option (List ℕ)) (begun : List ℕ) (old new : Counted R) (r : Result KeyList TextFault) : Type 0 where
-  pub known : ReadsText begun (remaining (inner_of old)) (remaining (inner_of new)) r
+  pub known : ReadsTextList begun (remaining (inner_of old)) (remaining (inner_of new)) r
   pub tested : IsErrOf r texts.Read → TakesNoFault begun (remaining (inner_of old)) (remaining (inner_of new))
   pub counts : Counts (IsErrOf r texts.Read) (IsOk r) old new
   pub long : IsErrOf r texts.TooLong → HasBytes MAX_BYTES (remaining (inner_of old))
 
 -- What is answered of a text of which these bytes come last, behind the part: nothing comes behind them, or a read failed there.
 pub record EndsText (text : Part) (last : List ℕ) (failed : Bool) (r : Result KeyList TextFault) : Type 0 where
-  pub told : (before rest : List ℕ) → IsReadTo Start before text → (IsFalse failed → rest ≡ []) → IsTold (text_said ((before ++ last) ++ rest)) r
+  pub told : (before rest : List ℕ) → IsReadTo Start before text → (IsFalse failed → rest ≡ []) → TellsText (text_said ((before ++ last) ++ rest)) r
   pub tested : IsErrOf r texts.Read → (before : List ℕ) → IsReadTo Start before text → HasNoFault (before ++ last)
   pub read : IsErrOf r texts.Read → IsTrue failed
   pub not_long : IsErrOf r texts.TooLong → ⊥

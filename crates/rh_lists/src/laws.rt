@@ -1,7 +1,7 @@
 //! A law of lists, as a function that does nothing.
 
 ghost use Rattle.std.specs.Prelude.{List, Option, Some, ℕ};
-ghost use Rattle.rh_lists.specs.Lists.{Agree, ReadsList};
+ghost use Rattle.rh_lists.specs.Lists.{Agree, ReadsKeyList};
 
 use crate::fault::ListFault;
 use rh_pieces::KeyList;
@@ -11,6 +11,6 @@ use rh_pieces::KeyList;
 /// are too long.
 pub fn lists_agree(first: &Result<KeyList, ListFault>, second: &Result<KeyList, ListFault>)
     ensures { (bytes : List ℕ) (left rest : Option (List ℕ)) →
-        ReadsList (Some bytes) left first.now → ReadsList (Some bytes) rest second.now →
+        ReadsKeyList (Some bytes) left first.now → ReadsKeyList (Some bytes) rest second.now →
         Agree first.now second.now }
 {}

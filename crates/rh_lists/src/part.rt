@@ -9,7 +9,7 @@ ghost use Rattle.rh_numbers.specs.declared.line_so_far.LineSoFar.{LineSoFar};
 ghost use Rattle.rh_numbers.specs.declared.line_so_far.LineSoFar.TheVariants.{Start};
 ghost use Rattle.rh_pieces.specs.Pieces.{keys_in};
 ghost use Rattle.rh_lists.specs.Lists.{OfHeldBytes};
-ghost use Rattle.rh_lists.specs.Parts.{IsOpen, IsPartOf, IsReadTo, IsTold, Refuses, so_far_of};
+ghost use Rattle.rh_lists.specs.Parts.{IsOpen, IsPartOf, IsReadTo, TellsText, Refuses, end_of_part};
 
 use rh_numbers::{Chunk, ChunkEnd, LineSoFar, TextFault, read_chunk};
 use rh_pieces::KeyList;
@@ -43,7 +43,7 @@ impl Part {
     pub(crate) fn then(self, next: Part) -> Result<Part, AllocError>
         requires { self.lines + next.lines < 2 ^ 64 }
         ensures read { IfOk result (λ both. (so_far : LineSoFar) (front back : List ℕ) →
-            IsReadTo so_far front self → IsReadTo (so_far_of self) back next →
+            IsReadTo so_far front self → IsReadTo (end_of_part self) back next →
             IsReadTo so_far (front ++ back) both) }
         ensures lines { IfOk result (λ both. both.lines ≤ self.lines + next.lines) }
         ensures whole { IfOk result (λ both. EndsLine next.end → EndsLine both.end) }
@@ -71,7 +71,7 @@ impl Part {
 
     /// What the last line has said so far, where none is bad.
     pub(crate) fn so_far(&self) -> LineSoFar
-        ensures { result ≡ so_far_of self.now }
+        ensures { result ≡ end_of_part self.now }
     {
         match self.end {
             ChunkEnd::Open(said) => said,
@@ -99,10 +99,10 @@ impl Part {
         requires { self.lines + next.lines + 1 < 2 ^ 64 }
         ensures read { MatchResult result
             (λ text. (before bytes : List ℕ) → IsReadTo Start before self →
-            IsReadTo (so_far_of self) bytes next →
+            IsReadTo (end_of_part self) bytes next →
             IsReadTo Start (before ++ bytes) text)
             (λ fault. (before bytes rest : List ℕ) → IsReadTo Start before self →
-            IsReadTo (so_far_of self) bytes next →
+            IsReadTo (end_of_part self) bytes next →
             Refuses (text_said ((before ++ bytes) ++ rest)) fault) }
         ensures held { IfErr result OfHeldBytes }
         ensures lines { IfOk result (λ text. text.lines ≤ self.lines + next.lines) }
@@ -121,7 +121,7 @@ impl Part {
     pub(crate) fn end_text(self, alloc: Global) -> Result<KeyList, TextFault>
         requires { self.lines + 1 < 2 ^ 64 }
         ensures told { (bytes : List ℕ) → IsReadTo Start bytes self →
-            IsTold (text_said bytes) result }
+            TellsText (text_said bytes) result }
         ensures held { IfErr result OfHeldBytes }
     {
         let Part { keys, lines, end } = self;

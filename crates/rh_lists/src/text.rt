@@ -4,7 +4,7 @@ ghost use Rattle.std.specs.Prelude.{◌<◌, ◌≤◌, ◌+◌, ◌++◌, ◌^�
 ghost use Rattle.rh_numbers.specs.declared.line_so_far.LineSoFar.TheVariants.{Start};
 ghost use Rattle.rh_numbers.specs.Reading.{text_said};
 ghost use Rattle.rh_lists.specs.Lists.{OfHeldBytes};
-ghost use Rattle.rh_lists.specs.Parts.{AnswersText, EndsText, IsReadTo, IsTold};
+ghost use Rattle.rh_lists.specs.Parts.{AnswersText, EndsText, IsReadTo, TellsText};
 ghost use Rattle.rh_lists.specs.declared.limits.TheConstants.{BLOCK_BYTES, FIRST_BYTES};
 
 use crate::ahead::read_ahead;
@@ -23,7 +23,7 @@ use std::thread::Threads;
 /// Reads a whole text that is held in memory.
 pub(crate) fn read_short_text(alloc: Global, bytes: &[u8]) -> Result<KeyList, TextFault>
     requires { length bytes.now + 1 < 2 ^ 64 }
-    ensures told { IsTold (text_said bytes.now) result }
+    ensures told { TellsText (text_said bytes.now) result }
     ensures held { IfErr result OfHeldBytes }
 {
     let Ok(text) = Part::read(alloc, LineSoFar::Start, bytes) else {

@@ -11,7 +11,7 @@ use Rattle.rh_numbers.specs.declared.line_so_far.LineSoFar.{LineSoFar}
 use Rattle.rh_numbers.specs.declared.reading.Reading.{Reading}
 use Rattle.rh_numbers.specs.Parts.{LeadsOn, PartGives, keys_read, line_reached, said_by, so_far_of}
 use Rattle.rh_bytes.specs.Input.{fault_of}
-use Rattle.rh_numbers.specs.Reading.{NoReadFailed, TextFails, ReadsText, Said, Stops, said_from, text_said, with_line}
+use Rattle.rh_numbers.specs.Reading.{NoTextReadFailed, TextFails, ReadsText, Said, Stops, said_from, text_said, with_line}
 use Rattle.rh_numbers.proofs.Fronts.{all_said, the_fault, too_many_said}
 
 -- the byte at a position, with what stands before and after it
@@ -151,10 +151,10 @@ is_no_limit e keys said r is h long =
     subst (λ e. Stops e keys said) same h
 
 -- A fault in the bytes may stand before a failed read.
-no_silence : (e : TextFault) (keys : List ℕ) (said : Said) → Stops e keys said → NoReadFailed (Some e) → ⊥
+no_silence : (e : TextFault) (keys : List ℕ) (said : Said) → Stops e keys said → NoTextReadFailed (Some e) → ⊥
 no_silence faults.Memory keys said h fine = h
 no_silence TooLong keys said h fine = h
 no_silence _ keys said h fine = fine
 
-pub before_failure : {X : Type 0} (e : TextFault) (keys : List ℕ) (said : Said) (r : Result X TextFault) → r ≡ Err e → Stops e keys said → NoReadFailed (fault_of r) → ⊥
-before_failure e keys said r is h fine = no_silence e keys said h (subst (λ r. NoReadFailed (fault_of r)) is fine)
+pub before_failure : {X : Type 0} (e : TextFault) (keys : List ℕ) (said : Said) (r : Result X TextFault) → r ≡ Err e → Stops e keys said → NoTextReadFailed (fault_of r) → ⊥
+before_failure e keys said r is h fine = no_silence e keys said h (subst (λ r. NoTextReadFailed (fault_of r)) is fine)

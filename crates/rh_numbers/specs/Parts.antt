@@ -36,7 +36,7 @@ PartGives part left old new (Err Read) = LeadsOn part old new
 PartGives part left old new (Err e) = MatchOption left (Unit {0}) (λ rest. Stops e (keys_read new) (said_by old (part ++ rest)))
 
 -- A part was taken of the bytes, and this came of it.
-pub record ReadsPart (bytes left : Option (List ℕ)) (old new : Reading) (r : Result Bool TextFault) : Type 0 where
+pub record ReadsTextPart (bytes left : Option (List ℕ)) (old new : Reading) (r : Result Bool TextFault) : Type 0 where
   pub part : List ℕ
   pub taken : Consumes bytes left part
   pub short : length part ≤ PART_BYTES

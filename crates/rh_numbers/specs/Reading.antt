@@ -118,11 +118,11 @@ IsTextReadFrom (Some bytes) None keys = ⊥
 IsTextReadFrom (Some bytes) (Some rest) keys = IsKeyText bytes keys × (rest ≡ [])
 
 -- What a call tells says that no read failed. A bad line and a key too many do not: they may stand before a failed read.
-abbrev pub NoReadFailed : Option TextFault → Type 0
-NoReadFailed None = Unit {0}
-NoReadFailed (Some faults.Memory) = Unit {0}
-NoReadFailed (Some TooLong) = Unit {0}
-NoReadFailed (Some fault) = ⊥
+abbrev pub NoTextReadFailed : Option TextFault → Type 0
+NoTextReadFailed None = Unit {0}
+NoTextReadFailed (Some faults.Memory) = Unit {0}
+NoTextReadFailed (Some TooLong) = Unit {0}
+NoTextReadFailed (Some fault) = ⊥
 
 -- These bytes say these keys, and reading goes on after them, whatever comes: they hold no fault.
 abbrev pub SayOnly : (bytes keys : List ℕ) → Type 0

@@ -56,12 +56,12 @@ impl LineSoFar {
     {
         match self {
             LineSoFar::Start if b == b'#' => LineSoFar::Comment,
-            LineSoFar::Start | LineSoFar::Blank if b.is_ascii_digit() => LineSoFar::Number(grown(
-                0, b,
-            )),
+            LineSoFar::Start | LineSoFar::Blank if b.is_ascii_digit() => LineSoFar::Number(
+                with_digit(0, b),
+            ),
             LineSoFar::Start | LineSoFar::Blank => past(LineSoFar::Blank, None, b),
             LineSoFar::Comment => LineSoFar::Comment,
-            LineSoFar::Number(n) if b.is_ascii_digit() => LineSoFar::Number(grown(n, b)),
+            LineSoFar::Number(n) if b.is_ascii_digit() => LineSoFar::Number(with_digit(n, b)),
             LineSoFar::Number(n) | LineSoFar::After(n) => past(LineSoFar::After(n), Some(n), b),
             LineSoFar::Return(_) | LineSoFar::Other => LineSoFar::Other,
         }
@@ -94,7 +94,7 @@ fn key(n: u64) -> Result<Option<u64>, BadLine>
 }
 
 /// The number with one more digit.
-fn grown(n: u64, digit: u8) -> u64
+fn with_digit(n: u64, digit: u8) -> u64
     requires { (48 ≤ digit) × (digit ≤ 57) }
     ensures { result ≡ grown n digit }
 {

@@ -32,8 +32,8 @@ impl Reading {
     ghost use Rattle.std.specs.Prelude.{IsErrOf, MatchResult, None, OnOk};
     ghost use Rattle.rh_bytes.specs.Counting.{Counts, inner_of};
     ghost use Rattle.rh_bytes.specs.Input.{fault_of};
-    ghost use Rattle.rh_numbers.specs.Parts.{ReadsPart, keys_read, line_reached, said_by, so_far_of};
-    ghost use Rattle.rh_numbers.specs.Reading.{NoReadFailed, Stops, with_key, with_line};
+    ghost use Rattle.rh_numbers.specs.Parts.{ReadsTextPart, keys_read, line_reached, said_by, so_far_of};
+    ghost use Rattle.rh_numbers.specs.Reading.{NoTextReadFailed, Stops, with_key, with_line};
     ghost use Rattle.rh_numbers.specs.declared.limits.TheConstants.{PART_BYTES};
 
     /// Nothing was read yet.
@@ -87,13 +87,13 @@ impl Reading {
     /// part never meets it.
     pub fn read_part<R: Read>(&mut self, reader: &mut Counted<R>) -> Result<bool, TextFault>
         requires { line_reached self.old + PART_BYTES < 2 ^ 64 }
-        ensures part { ReadsPart (R.remaining (inner_of reader.old))
+        ensures part { ReadsTextPart (R.remaining (inner_of reader.old))
             (R.remaining (inner_of reader.new)) self.old self.new result }
         ensures line { OnOk result (line_reached self.new ≤ line_reached self.old + PART_BYTES) }
         ensures many { length (keys_read self.new) ≤ length (keys_read self.old) + PART_BYTES + 1 }
         ensures full { IsErrOf result TextFault.TooMany → length (keys_read self.new) ≡ MAX_KEYS }
         ensures not_too_long { IsErrOf result TextFault.TooLong → ⊥ }
-        ensures counts { Counts (IsErrOf result TextFault.Read) (NoReadFailed (fault_of result))
+        ensures counts { Counts (IsErrOf result TextFault.Read) (NoTextReadFailed (fault_of result))
             reader.old reader.new }
     {
         self.keys.reserve(PART_BYTES + 1)?;

@@ -5,7 +5,7 @@ ghost use Rattle.rh_layout.specs.Key.{IsKey};
 ghost use Rattle.rh_layout.specs.declared.limits.TheConstants.{MAX_KEYS};
 ghost use Rattle.rh_bytes.specs.Counting.{Counts, inner_of};
 ghost use Rattle.rh_bytes.specs.Input.{fault_of};
-ghost use Rattle.rh_numbers.specs.Reading.{IsTextReadFrom, NoReadFailed, ReadsText};
+ghost use Rattle.rh_numbers.specs.Reading.{IsTextReadFrom, NoTextReadFailed, ReadsText};
 ghost use Rattle.rh_numbers.specs.Reading.{TakesFew, TakesFewParts, TakesToFault};
 
 use crate::fault::TextFault;
@@ -31,7 +31,7 @@ pub fn read_numbers<R: Read>(alloc: Global, reader: &mut Counted<R>) -> Result<V
         TakesFew (R.remaining (inner_of reader.old)) (R.remaining (inner_of reader.new)) }
     ensures memory { IsErrOf result TextFault.Memory →
         TakesFewParts (R.remaining (inner_of reader.old)) (R.remaining (inner_of reader.new)) }
-    ensures counts { Counts (IsErrOf result TextFault.Read) (NoReadFailed (fault_of result))
+    ensures counts { Counts (IsErrOf result TextFault.Read) (NoTextReadFailed (fault_of result))
         reader.old reader.new }
 {
     let mut reading = Reading::new(alloc);

@@ -16,4 +16,4 @@ spelled_in_memory keys saved old new none written in_range few same =
       few = omega (arith, few);
       in_range = λ k d inside. (omega arith, in_range k d inside);
     } in
-    ap (λ r. keys_or_cause (source.keys_in r)) (file_given Second new keys file) ∙ ap (λ (k : List ℕ). Ok k) same
+    ap (λ r. keys_or_cause (source.keys_alone r)) (file_given Second new keys file) ∙ ap (λ (k : List ℕ). Ok k) same

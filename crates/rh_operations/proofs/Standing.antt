@@ -15,7 +15,7 @@ use Rattle.rh_script.specs.declared.action.Action.{Action}
 use Rattle.rh_script.specs.declared.action.Action.TheVariants.{Add, Drop, Keep, Flip, Ask}
 use Rattle.rh_operations.specs.declared.cause.Cause.{Cause}
 use Rattle.rh_operations.specs.declared.key_lists.KeyList.{KeyList}
-use Rattle.rh_operations.specs.Actions.{Changed, Made, made_of, means, room_for, table}
+use Rattle.rh_operations.specs.Actions.{Changed, CommandResult, made_of, means, room_for, table}
 use Rattle.rh_operations.specs.Found.{count_again, count_or_cause, keys_found, keys_or_cause, still}
 use Rattle.rh_operations.specs.KeyLists.{Gave, Opens, Stands, source_bytes}
 
@@ -55,7 +55,7 @@ count_stands (Some bytes) keys noted is many =
 
 -- ---- what is made of its keys
 
-once : (r : Result ℕ Cause) (make : ℕ → Made) → (r >>= (λ _. r >>= make)) ≡ (r >>= make)
+once : (r : Result ℕ Cause) (make : ℕ → CommandResult) → (r >>= (λ _. r >>= make)) ≡ (r >>= make)
 once (Ok n) make = refl
 once (Err e) make = refl
 

@@ -30,39 +30,39 @@ abbrev pub telling : Done → Telling
 telling (done.Changed change) = Changed change
 telling (done.Asked answers) = Asked answers.items
 
-abbrev pub Made : Type 0
-Made = Result (Held × Telling) Cause
+abbrev pub CommandResult : Type 0
+CommandResult = Result (Held × Telling) Cause
 
 abbrev pub table : (bits : ℕ) → Keys → Held
 table bits keys = record { bits = bits; keys = keys }
 
 -- the keys of the list are held too
-abbrev pub adds : Held → List ℕ → Made
+abbrev pub adds : Held → List ℕ → CommandResult
 adds t keys =
     size_for t.bits (set.len t.keys + length keys)
     >>= (λ bits. Ok (table bits (set_after Insert t.keys keys), Changed (Added (tally_of Insert t.keys keys).added)))
 
 -- the keys of the list are held no more
-abbrev pub drops : Held → List ℕ → Made
+abbrev pub drops : Held → List ℕ → CommandResult
 drops t keys = Ok (table t.bits (set_after Remove t.keys keys), Changed (Dropped (tally_of Remove t.keys keys).removed))
 
 -- of the keys that are held, those of the list are kept
-abbrev pub keeps : Held → List ℕ → Made
+abbrev pub keeps : Held → List ℕ → CommandResult
 keeps t keys =
     size_for MIN_BITS (length (chosen Present t.keys keys))
     >>= (λ bits. Ok (table bits (kept t.keys keys), Changed (Kept (length (chosen Present t.keys keys)))))
 
 -- the keys of the list that are held are dropped, and the others are added
-abbrev pub flips : Held → List ℕ → Made
+abbrev pub flips : Held → List ℕ → CommandResult
 flips t keys =
     size_for t.bits (set.len (set_after Remove t.keys keys) + length (chosen Absent t.keys keys))
     >>= (λ bits. Ok (table bits (flipped t.keys keys), Changed (Flipped (tally_of Remove t.keys keys).removed (tally_of Insert (set_after Remove t.keys keys) (chosen Absent t.keys keys)).added)))
 
 -- the keys of the list are looked up
-abbrev pub asks : Held → List ℕ → Made
+abbrev pub asks : Held → List ℕ → CommandResult
 asks t keys = Ok (t, Asked (looked_up t.keys keys))
 
-abbrev pub means : Action → Held → List ℕ → Made
+abbrev pub means : Action → Held → List ℕ → CommandResult
 means Add t keys = adds t keys
 means Drop t keys = drops t keys
 means Keep t keys = keeps t keys
@@ -85,5 +85,5 @@ abbrev pub room_found : Action → Held → (noted : ℕ) → Option (List ℕ) 
 room_found action t noted found = count_again noted found >>= room_for action t
 
 -- after that the keys, and what is made of them
-abbrev pub made_of : Action → Held → (noted : ℕ) → Option (List ℕ) → Made
+abbrev pub made_of : Action → Held → (noted : ℕ) → Option (List ℕ) → CommandResult
 made_of action t noted found = room_found action t noted found >>= (λ _. keys_found found >>= means action t)

@@ -11,9 +11,9 @@
 //!   it was.
 //! - An action is refused by the first of: its file's header, another count, for `add` the size,
 //!   then the keys; `keep` and `flip` find the size after all keys.
-//! - `use_file`: how many keys a key file has, of which all were read. `saved`: a key file in
+//! - `use_file`: how many keys a key file has, of which all were read. `save`: a key file in
 //!   memory of the held keys in rising order.
-//! - `put_snapshot`, `restored`: the bytes spell the one layout of the table, or are read back to
+//! - `put_snapshot`, `restore`: the bytes spell the one layout of the table, or are read back to
 //!   it.
 //! - Any other cause comes from outside: want of memory, or a shelf, a reader or a runner that
 //!   failed, which was counted. A failed read is told of a file only where the shelf was shown a
@@ -39,5 +39,5 @@ pub use cause::Cause;
 pub use done::Done;
 pub use key_lists::{KeyList, Source};
 pub use laws::one_size;
-pub use operations::{operate, saved, use_file};
-pub use snapshots::{put_snapshot, restored};
+pub use operations::{operate, save, use_file};
+pub use snapshots::{put_snapshot, restore};

@@ -114,7 +114,7 @@ fn act<T: Threads + Wait + Sync, N: Runner, K: KeySource>(
 }
 
 /// The keys of the set, in rising order, as a list whose key file stands in memory.
-pub fn saved<'a>(alloc: Global, set: &SeqSet) -> Result<KeyList<'a>, Cause>
+pub fn save<'a>(alloc: Global, set: &SeqSet) -> Result<KeyList<'a>, Cause>
     ensures saved { (files : Files) →
         IfOk result (λ list. Stands (Some files) list (rising_keys set.now.keys)) }
     ensures count { IfOk result (λ list. list.count ≡ finset.len set.now.keys) }

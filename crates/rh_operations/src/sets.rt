@@ -17,7 +17,7 @@ ghost use Rattle.rh_operations.specs.Size.{size_for};
 
 use crate::cause::Cause;
 use crate::done::Done;
-use crate::size::{copied, grown};
+use crate::size::{copy_table, grow_table};
 use rh_edit::SeqSet;
 use rh_key_files::KeySource;
 use rh_layout::MIN_BITS;
@@ -46,7 +46,7 @@ fn with_keys<T: Threads + Wait + Sync, N: Runner>(
     ensures runner { KeepsRunner (N.refused_starts runner.old) (N.refused_starts runner.new)
         result }
 {
-    let mut scratch = grown(host.alloc, set, keys.len() as u64)?;
+    let mut scratch = grow_table(host.alloc, set, keys.len() as u64)?;
     let cells = &mut scratch.cells;
     let tally = runner.change(host.rt, host.alloc, Kind::Insert, scratch.bits, cells, keys)?;
     Ok((SeqSet::from_cells(scratch.bits, scratch.cells), tally))
@@ -69,7 +69,7 @@ fn without_keys<T: Threads + Wait + Sync, N: Runner>(
     ensures runner { KeepsRunner (N.refused_starts runner.old) (N.refused_starts runner.new)
         result }
 {
-    let mut scratch = copied(host.alloc, set)?;
+    let mut scratch = copy_table(host.alloc, set)?;
     let cells = &mut scratch.cells;
     let tally = runner.change(host.rt, host.alloc, Kind::Remove, scratch.bits, cells, keys)?;
     Ok((SeqSet::from_cells(scratch.bits, scratch.cells), tally))
@@ -109,7 +109,7 @@ pub(crate) fn add_keys<T: Threads + Wait + Sync, N: Runner, K: KeySource>(
         (K.coming keys.old) (K.left_of keys.old) (K.told_by keys.new)
         (N.refused_starts runner.old) (N.refused_starts runner.new) result }
 {
-    let mut scratch = grown(host.alloc, set, keys.left())?;
+    let mut scratch = grow_table(host.alloc, set, keys.left())?;
     let tally = change_all(host, runner, Kind::Insert, &mut scratch, keys)?;
     *set = SeqSet::from_cells(scratch.bits, scratch.cells);
     Ok(Done::Changed(Change::Added(tally.added)))
@@ -126,7 +126,7 @@ pub(crate) fn drop_keys<T: Threads + Wait + Sync, N: Runner, K: KeySource>(
         (K.coming keys.old) (K.left_of keys.old) (K.told_by keys.new)
         (N.refused_starts runner.old) (N.refused_starts runner.new) result }
 {
-    let mut scratch = copied(host.alloc, set)?;
+    let mut scratch = copy_table(host.alloc, set)?;
     let tally = change_all(host, runner, Kind::Remove, &mut scratch, keys)?;
     *set = SeqSet::from_cells(scratch.bits, scratch.cells);
     Ok(Done::Changed(Change::Dropped(tally.removed)))

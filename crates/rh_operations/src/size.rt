@@ -16,7 +16,7 @@ use std::alloc::{AllocError, Global};
 /// A copy of the set's table that takes `more` keys too. Its bits are the least that do, and none
 /// fewer.
 #[tactic(auto, using(crate::proofs::SizeLemmas::size_found))]
-pub(crate) fn grown(alloc: Global, set: &SeqSet, more: u64) -> Result<Scratch, Cause>
+pub(crate) fn grow_table(alloc: Global, set: &SeqSet, more: u64) -> Result<Scratch, Cause>
     ensures size { IfOk result
         (λ t. size_for set.now.bits (finset.len set.now.keys + more) ≡ Ok t.bits) }
     ensures layout { IfOk result (λ t. IsLayout t.bits t.cells.items) }
@@ -33,14 +33,14 @@ pub(crate) fn grown(alloc: Global, set: &SeqSet, more: u64) -> Result<Scratch, C
         return Err(Cause::TooLarge);
     };
     if size == set.bits() {
-        return Ok(copied(alloc, set)?);
+        return Ok(copy_table(alloc, set)?);
     }
     let cells = grow(alloc, set.bits(), set.cells(), size)?;
     Ok(Scratch { bits: size, cells })
 }
 
 /// A copy of the set's table as it is.
-pub(crate) fn copied(alloc: Global, set: &SeqSet) -> Result<Scratch, AllocError>
+pub(crate) fn copy_table(alloc: Global, set: &SeqSet) -> Result<Scratch, AllocError>
     ensures bits { IfOk result (λ t. t.bits ≡ set.now.bits) }
     ensures layout { IfOk result (λ t. IsLayout t.bits t.cells.items) }
     ensures keys { IfOk result (λ t. keys_of t.cells.items ≡ set.now.keys) }

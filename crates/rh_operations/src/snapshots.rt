@@ -32,7 +32,7 @@ pub fn put_snapshot<S: Lender>(
     ensures fine { OnOk result ((S.state shelf.new).failures ≡ (S.state shelf.old).failures) }
     ensures same_reads { (S.state shelf.new).failed_reads ≡ (S.state shelf.old).failed_reads }
 {
-    let bytes = sealed(alloc, set)?;
+    let bytes = seal(alloc, set)?;
     match shelf.store(alloc, path, &bytes) {
         Ok(()) => Ok(()),
         Err(ShelfFault::Write) => Err(Cause::Put),
@@ -42,7 +42,7 @@ pub fn put_snapshot<S: Lender>(
 }
 
 /// The snapshot of the set's table.
-fn sealed(alloc: Global, set: &SeqSet) -> Result<Vec<u8>, Cause>
+fn seal(alloc: Global, set: &SeqSet) -> Result<Vec<u8>, Cause>
     ensures sealed { IfOk result (λ bytes. IsSnapshotOf set.now bytes.items) }
     ensures memory { IfErr result (λ cause. cause ≡ Cause.Memory) }
 {
@@ -52,7 +52,7 @@ fn sealed(alloc: Global, set: &SeqSet) -> Result<Vec<u8>, Cause>
 }
 
 /// The table of the snapshot at the path.
-pub fn restored<S: Lender>(alloc: Global, shelf: &mut S, path: &str) -> Result<SeqSet, Cause>
+pub fn restore<S: Lender>(alloc: Global, shelf: &mut S, path: &str) -> Result<SeqSet, Cause>
     ensures restored { (files : Files) → (S.state shelf.old).files ≡ Some files →
         IfOk result (λ set. table_found (files path.now) ≡ Ok set) }
     ensures refused { (files : Files) → (S.state shelf.old).files ≡ Some files → IfErr result

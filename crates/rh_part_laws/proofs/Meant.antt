@@ -19,17 +19,17 @@ use Rattle.rh_script_run.specs.Ends.{Ends}
 use Rattle.rh_script_run.specs.Environment.{Environment}
 use Rattle.rh_script_run.specs.Files.{File, HasFiles, Sealed}
 use Rattle.rh_script_run.specs.Files as file_maps
-use Rattle.rh_script_run.specs.Meaning.{Outcome, ScriptState, held_table, keys_at_path, list_of, meaning, outcome_at, outcome_of, start, table_at, with_list}
+use Rattle.rh_script_run.specs.Meaning.{CommandOutcome, ScriptState, held_table, keys_at_path, list_of, meaning, outcome_at, outcome_of, start, table_at, with_list}
 use Rattle.rh_script_run.proofs.MadeLemmas.{Made, line_ok}
 use Rattle.rh_script_run.proofs.RunLemmas.{reached_in, then_ok}
-use Rattle.rh_part_laws.specs.Commands.{State, after, after_all, cut, with_held, with_name, with_snapshot}
+use Rattle.rh_part_laws.specs.Commands.{State, after, after_all, cut, with_held, with_name, with_sealed}
 use Rattle.rh_part_laws.specs.Scripts.{Has, commands_of}
 use Rattle.rh_part_laws.proofs.States.{cut_all}
 
-abbrev as_ok : ScriptState × Account → Outcome
+abbrev as_ok : ScriptState × Account → CommandOutcome
 as_ok done = Ok done
 
-abbrev made_in : ScriptState × Account → Outcome → ScriptState × Account
+abbrev made_in : ScriptState × Account → CommandOutcome → ScriptState × Account
 made_in other (Ok done) = done
 made_in other (Err cause) = other
 
@@ -79,7 +79,7 @@ module _ (w : ScriptState) (s : State) (has : Has w s) where
   now_held : (S T : Keys) (bits : ℕ) → S ≡ T → Has (record w { held = S; bits = bits }) (with_held s T)
   now_held S T bits is = record { held = is; lists = has.lists; files = has.files; snapshots = has.snapshots }
 
-  now_put : (path : List ℕ) → Has (record w { files = file_maps.with_snapshot w.files path (held_table w) }) (with_snapshot s path s.held)
+  now_put : (path : List ℕ) → Has (record w { files = file_maps.with_snapshot w.files path (held_table w) }) (with_sealed s path s.held)
   now_put path = record {
     held = has.held;
     lists = has.lists;

@@ -25,8 +25,8 @@ abbrev pub with_name : State → (name keys : List ℕ) → State
 with_name s name keys = record s { lists = s.lists ++ (name, keys) ∷ [] }
 
 -- the snapshot at the path has these keys from now on
-abbrev pub with_snapshot : State → (path : List ℕ) → Keys → State
-with_snapshot s path S = record s { snapshots = λ other. if bytes_eq path other then S else s.snapshots other }
+abbrev pub with_sealed : State → (path : List ℕ) → Keys → State
+with_sealed s path S = record s { snapshots = λ other. if bytes_eq path other then S else s.snapshots other }
 
 -- after a command, of which `dump` only tells what there is
 abbrev pub after : State → Instruction → State
@@ -35,7 +35,7 @@ after s (Act action name) = with_held s (held_after action s.held (list_of name 
 after s (Save name) = with_name s name (rising_keys s.held)
 after s Clear = with_held s set.empty
 after s Dump = s
-after s (Snapshot path) = with_snapshot s path s.held
+after s (Snapshot path) = with_sealed s path s.held
 after s (Restore path) = with_held s (s.snapshots path)
 
 -- after the commands, one by one

@@ -22,12 +22,12 @@ pub fn part_of(parts: u64, key: u64) -> u64
     ensures part { result ≡ part_of parts key }
     ensures within { result < parts }
 {
-    (mixed(key) % (1 << 32) * parts) >> 32
+    (mix(key) % (1 << 32) * parts) >> 32
 }
 
 /// The key, of which each bit depends on many others.
 #[tactic(auto, unfolding(crate::specs::Parts::mixed))]
-fn mixed(key: u64) -> u64
+fn mix(key: u64) -> u64
     ensures { result ≡ mixed key }
 {
     let spread = (key ^ (key >> 32)).wrapping_mul(MULTIPLIER);

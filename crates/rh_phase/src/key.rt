@@ -2,7 +2,7 @@
 
 ghost use Rattle.std.specs.Prelude.{◌≡◌, ◌^◌, IfNone, IfSome, length};
 ghost use Rattle.rh_layout.specs.Key.{IsKey};
-ghost use Rattle.rh_run.specs.History.{own_acts_of};
+ghost use Rattle.rh_order.specs.History.{own_acts_of};
 ghost use Rattle.rh_shared.specs.Rests.{SeatRests, StaysAtRest};
 ghost use Rattle.rh_shared.specs.Seats.{view_of};
 ghost use Rattle.rh_threads.specs.Keys.{Furthers, KeySpec};
@@ -11,7 +11,7 @@ ghost use Rattle.rh_worker.specs.Worker.{HasNoRoom};
 use rh_layout::Entry;
 use rh_ledger::Kind;
 use rh_shared::{Seat, Table};
-use rh_threads::{Task, Tried};
+use rh_threads::{KeyTask, Tried};
 use std::sync::Wait;
 
 /// Inserts, removes or looks up a key, and answers whether it was added, removed or found; none
@@ -46,7 +46,7 @@ pub fn do_key<R: Wait>(
         × (own_acts_of (view_of seat.new) ≡ own_acts_of (view_of seat.old))) }
 {
     for _ in rt.forever() {
-        let task = Task {
+        let task = KeyTask {
             rt,
             table,
             kind,

@@ -21,7 +21,7 @@ pub enum Line {
 }
 
 /// What these words ask for, the program's name left out, or none where they are not understood.
-pub fn asked(words: &[String]) -> Option<Line> {
+pub fn parse_line(words: &[String]) -> Option<Line> {
     if words.len() != 3 {
         return None;
     }

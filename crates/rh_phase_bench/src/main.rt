@@ -41,7 +41,7 @@ fn carry_out(
 ) -> Result<(), &'static str> {
     let args = env::args(rt).map_err(|_| "cannot read the command line")?;
     let words: Vec<String> = args.collect(rt.alloc()).map_err(|_| "out of memory")?;
-    let Some(line) = words.get(1..).and_then(line::asked) else {
+    let Some(line) = words.get(1..).and_then(line::parse_line) else {
         return Err(USAGE);
     };
     let printed = match line {

@@ -15,7 +15,7 @@ use crate::name::NAME;
 use clap::{Arg, ArgAction, ArgMatches, Command, value_parser};
 use rh_arguments::LineFault;
 use rh_arguments::parsing::{
-    described, number, parsed, program_command, text, text_arg, with_subcommand,
+    describe, find_arguments, number, program_command, text, text_arg, with_subcommand,
 };
 use std::alloc::{AllocError, Global};
 
@@ -27,12 +27,12 @@ pub fn line(alloc: Global, words: &[String]) -> Result<Line, LineFault>
     ensures taken { IfOk result (λ l. fault_of rhplay_app (texts_of words.now) ≡ []) }
     ensures refused { IfErr result (λ f. IsOneOf (fault_of rhplay_app (texts_of words.now)) f) }
 {
-    let matches = parsed(command(alloc)?, words)?;
-    let line = asked(alloc, &matches)?;
+    let matches = find_arguments(command(alloc)?, words)?;
+    let line = line_in(alloc, &matches)?;
     Ok(line)
 }
 
-fn asked(alloc: Global, matches: &ArgMatches<'_>) -> Result<Line, AllocError>
+fn line_in(alloc: Global, matches: &ArgMatches<'_>) -> Result<Line, AllocError>
     requires { Finds IsCommand (subcommand_rows_of matches.now) }
     ensures { IfOk result (λ l. Asks (subcommand_rows_of matches.now) l) }
 {
@@ -89,14 +89,14 @@ fn play_command<'a>(alloc: Global) -> Result<Command<'a>, AllocError>
     ensures { IfOk result (λ c. app_of c ≡ play_app) }
 {
     let file = text_arg(alloc, "file", "FILE", help::FILE);
-    described(alloc, "play", help::PLAY, help::PLAY_AT_LENGTH, help::PLAYS).arg(file)
+    describe(alloc, "play", help::PLAY, help::PLAY_AT_LENGTH, help::PLAYS).arg(file)
 }
 
 fn trace_command<'a>(alloc: Global) -> Result<Command<'a>, AllocError>
     ensures { IfOk result (λ c. app_of c ≡ trace_app) }
 {
     let file = text_arg(alloc, "file", "FILE", help::FILE);
-    described(
+    describe(
         alloc,
         "trace",
         help::TRACE,
@@ -109,7 +109,7 @@ fn trace_command<'a>(alloc: Global) -> Result<Command<'a>, AllocError>
 fn draw_command<'a>(alloc: Global) -> Result<Command<'a>, AllocError>
     ensures { IfOk result (λ c. app_of c ≡ draw_app) }
 {
-    described(
+    describe(
         alloc,
         "draw",
         help::DRAW,

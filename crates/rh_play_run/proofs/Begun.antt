@@ -10,12 +10,12 @@ use Rattle.rh_layout.specs.Layout.{IsLayout, Layout, keys_of}
 use Rattle.rh_edit.proofs.SetLemmas.{keeps_empty, keys_of_empty}
 use Rattle.rh_words.specs.declared.shape.Rooms.{Rooms}
 use Rattle.rh_turns.specs.Game.{Game}
-use Rattle.rh_stepper.specs.declared.fault.PlayFault.{PlayFault}
-use Rattle.rh_stepper.specs.declared.fault.PlayFault.TheVariants.{NoRoom}
-use Rattle.rh_stepper.specs.Start.{HasSizes, MakesPlayer, Refuses, StartsPieces, StartsShared, StartsWith, are_keys, keys_of_pieces, start_fault}
-use Rattle.rh_play.specs.declared.play.Play.{Play}
-use Rattle.rh_play.specs.declared.play.Work.{Work}
-use Rattle.rh_play.specs.declared.play.Work.TheVariants.{Pieces, Share}
+use Rattle.rh_interleaving.specs.declared.fault.PlayFault.{PlayFault}
+use Rattle.rh_interleaving.specs.declared.fault.PlayFault.TheVariants.{NoRoom}
+use Rattle.rh_interleaving.specs.Start.{HasSizes, MakesPlayer, Refuses, StartsPieces, StartsShared, StartsWith, are_keys, keys_of_pieces, start_fault}
+use Rattle.rh_play_text.specs.declared.play.Play.{Play}
+use Rattle.rh_play_text.specs.declared.play.Work.{Work}
+use Rattle.rh_play_text.specs.declared.play.Work.TheVariants.{Pieces, Share}
 use Rattle.rh_play_run.specs.Beginning.{BeginsPlay, CanBegin, IsPlayerFault, IsRefusedStart, IsBlank, StartsOn, bits_of, held_fault, held_of, work_keys, player_fault, rooms_in, workers_in}
 
 pub many_held : (bits : ℕ) (keys : List ℕ) → are_keys keys ≡ true → 2 ^ bits ≤ length keys → held_fault bits keys ≡ Some NoRoom

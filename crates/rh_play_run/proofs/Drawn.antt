@@ -6,7 +6,7 @@ use Rattle.rh_words.specs.declared.shape.Shape.{Shape}
 use Rattle.rh_draw.specs.Picture.{IsPicture}
 use Rattle.rh_draw.specs.declared.records.Record.{Record}
 use Rattle.rh_draw.specs.declared.records.Window.{Window}
-use Rattle.rh_play.specs.declared.play.Play.{Play}
+use Rattle.rh_play_text.specs.declared.play.Play.{Play}
 use Rattle.rh_play_run.specs.declared.draw_fault.DrawFault.{DrawFault}
 use Rattle.rh_play_run.specs.declared.draw_fault.DrawFault.TheVariants as draw
 use Rattle.rh_play_run.specs.declared.fault.PlayRunFault.{PlayRunFault}

@@ -6,21 +6,21 @@ use Rattle.rh_tagword.specs.declared.word.Word.{Word}
 use Rattle.rh_tagword.specs.Word.{word_in}
 use Rattle.rh_turns.specs.declared.turning.Turn.{Turn}
 use Rattle.rh_turns.specs.Game.{AllStopped, Game}
-use Rattle.rh_stepper.specs.Turned.{BeginsRound}
-use Rattle.rh_play.specs.declared.limits.TheConstants.{MAX_TURNS}
-use Rattle.rh_play.specs.declared.schedule.Order.{Order}
-use Rattle.rh_play.specs.declared.schedule.Order.TheVariants as order
-use Rattle.rh_play.specs.declared.endings.Last.{Last}
-use Rattle.rh_play.specs.declared.endings.Last.TheVariants.{Limit}
-use Rattle.rh_play.specs.declared.endings.Rest.{Rest}
-use Rattle.rh_play.specs.Appending.{Prints}
-use Rattle.rh_play.specs.Lines.{raw_line, rest_line, round_line, turn_line, until_line}
+use Rattle.rh_interleaving.specs.Turned.{BeginsRound}
+use Rattle.rh_play_text.specs.declared.limits.TheConstants.{MAX_TURNS}
+use Rattle.rh_play_text.specs.declared.schedule.Order.{Order}
+use Rattle.rh_play_text.specs.declared.schedule.Order.TheVariants as order
+use Rattle.rh_play_text.specs.declared.endings.Last.{Last}
+use Rattle.rh_play_text.specs.declared.endings.Last.TheVariants.{Limit}
+use Rattle.rh_play_text.specs.declared.endings.Rest.{Rest}
+use Rattle.rh_play_text.specs.Appending.{Prints}
+use Rattle.rh_play_text.specs.Lines.{raw_line, rest_line, round_line, turn_line, until_line}
 use Rattle.rh_play_run.specs.declared.limits.TheConstants.{MAX_TOLD}
 use Rattle.rh_play_run.specs.declared.log.Log.{Log}
 use Rattle.rh_play_run.specs.declared.log.Telling.{Telling}
 use Rattle.rh_play_run.specs.declared.log.Telling.TheVariants.{Orders, Steps, Records}
 use Rattle.rh_draw.specs.declared.records.Record.{Record}
-use Rattle.rh_play_run.specs.Pieces.{IsTold, Piece, TellsPieces, one_step_more, piece_records, piece_text, recorded, round_pieces, steps_after, steps_with, told}
+use Rattle.rh_play_run.specs.Pieces.{MayBeTold, LogEntry, TellsPieces, one_step_more, piece_records, piece_text, recorded, round_pieces, steps_after, steps_with, told}
 use Rattle.rh_play_run.specs.Schedule.{ATurn, CarriesOut, CarriesOutAll, Misses, Reaches, PassesToRest, RestsWithin, Rounds, StandsAs, TurnOfEach, TurnsOf, TurnsUntil, last_of, makes_step, shown, word_line, words_shown}
 
 -- ---- what is told
@@ -28,35 +28,35 @@ use Rattle.rh_play_run.specs.Schedule.{ATurn, CarriesOut, CarriesOutAll, Misses,
 pub nothing_told : (log : Log) → TellsPieces log [] log
 nothing_told log = record { telling = refl; steps = refl; text = λ _. sym (append-nil log.text.items); records = λ _. sym (append-nil log.records.items) }
 
-told_more : (telling : Telling) (n : ℕ) (ps qs : List Piece) → told telling n (ps ++ qs) ≡ told telling n ps ++ told telling (steps_after n ps) qs
+told_more : (telling : Telling) (n : ℕ) (ps qs : List LogEntry) → told telling n (ps ++ qs) ≡ told telling n ps ++ told telling (steps_after n ps) qs
 told_more telling n [] qs = refl
 told_more telling n (p ∷ ps) qs =
     ap (λ (l : List ℕ). piece_text telling n p ++ l) (told_more telling (steps_with n p) ps qs)
     ∙ sym (append_assoc (piece_text telling n p) (told telling (steps_with n p) ps) (told telling (steps_after (steps_with n p) ps) qs))
 
-records_more : (telling : Telling) (n : ℕ) (ps qs : List Piece) → recorded telling n (ps ++ qs) ≡ recorded telling n ps ++ recorded telling (steps_after n ps) qs
+records_more : (telling : Telling) (n : ℕ) (ps qs : List LogEntry) → recorded telling n (ps ++ qs) ≡ recorded telling n ps ++ recorded telling (steps_after n ps) qs
 records_more telling n [] qs = refl
 records_more telling n (p ∷ ps) qs =
     ap (λ (l : List Record). piece_records telling n p ++ l) (records_more telling (steps_with n p) ps qs)
     ∙ sym (append_assoc (piece_records telling n p) (recorded telling (steps_with n p) ps) (recorded telling (steps_after (steps_with n p) ps) qs))
 
-steps_more : (n : ℕ) (ps qs : List Piece) → steps_after n (ps ++ qs) ≡ steps_after (steps_after n ps) qs
+steps_more : (n : ℕ) (ps qs : List LogEntry) → steps_after n (ps ++ qs) ≡ steps_after (steps_after n ps) qs
 steps_more n [] qs = refl
 steps_more n (p ∷ ps) qs = steps_more (steps_with n p) ps qs
 
 -- the steps are no fewer later
-few : (n : ℕ) (pieces : List Piece) → steps_after n pieces ≤ MAX_TOLD → n ≤ MAX_TOLD
+few : (n : ℕ) (pieces : List LogEntry) → steps_after n pieces ≤ MAX_TOLD → n ≤ MAX_TOLD
 few n [] within = within
-few n (Piece.step worker kind touched ∷ pieces) within = omega (arith, few (one_step_more n) pieces within)
-few n (Piece.round ∷ pieces) within = few n pieces within
-few n (Piece.lines text ∷ pieces) within = few n pieces within
+few n (LogEntry.step worker kind touched ∷ pieces) within = omega (arith, few (one_step_more n) pieces within)
+few n (LogEntry.round ∷ pieces) within = few n pieces within
+few n (LogEntry.lines text ∷ pieces) within = few n pieces within
 
-told_before : (telling : Telling) (n : ℕ) (pieces : List Piece) → IsTold telling (steps_after n pieces) → IsTold telling n
+told_before : (telling : Telling) (n : ℕ) (pieces : List LogEntry) → MayBeTold telling (steps_after n pieces) → MayBeTold telling n
 told_before Orders n pieces within = tt
 told_before Steps n pieces within = few n pieces within
 told_before Records n pieces within = few n pieces within
 
-pub then_tells : (a b c : Log) (ps qs : List Piece) → TellsPieces a ps b → TellsPieces b qs c → TellsPieces a (ps ++ qs) c
+pub then_tells : (a b c : Log) (ps qs : List LogEntry) → TellsPieces a ps b → TellsPieces b qs c → TellsPieces a (ps ++ qs) c
 then_tells a b c ps qs one two = record {
   telling = two.telling ∙ one.telling;
   steps = two.steps ∙ ap (λ (n : ℕ). steps_after n qs) one.steps ∙ sym (steps_more a.steps ps qs);
@@ -76,24 +76,24 @@ then_tells a b c ps qs one two = record {
       ∙ ap (λ (l : List Record). a.records.items ++ l) (sym (records_more a.telling a.steps ps qs));
 }
   where
-    later : IsTold a.telling c.steps → IsTold b.telling c.steps
-    later = subst (λ (t : Telling). IsTold t c.steps) (sym one.telling)
+    later : MayBeTold a.telling c.steps → MayBeTold b.telling c.steps
+    later = subst (λ (t : Telling). MayBeTold t c.steps) (sym one.telling)
 
-    before : IsTold a.telling c.steps → IsTold a.telling b.steps
-    before within = told_before a.telling b.steps qs (subst (IsTold a.telling) two.steps within)
+    before : MayBeTold a.telling c.steps → MayBeTold a.telling b.steps
+    before within = told_before a.telling b.steps qs (subst (MayBeTold a.telling) two.steps within)
 
 -- the lines of an order were appended
-lines_text : (telling : Telling) (n : ℕ) (text : List ℕ) → piece_text telling n (Piece.lines text) ≡ text
+lines_text : (telling : Telling) (n : ℕ) (text : List ℕ) → piece_text telling n (LogEntry.lines text) ≡ text
 lines_text Orders n text = refl
 lines_text Steps n text = refl
 lines_text Records n text = refl
 
-no_records : (telling : Telling) (n : ℕ) (text : List ℕ) → piece_records telling n (Piece.lines text) ≡ []
+no_records : (telling : Telling) (n : ℕ) (text : List ℕ) → piece_records telling n (LogEntry.lines text) ≡ []
 no_records Orders n text = refl
 no_records Steps n text = refl
 no_records Records n text = refl
 
-lines_told : (a b : Log) (text : List ℕ) → b.telling ≡ a.telling → b.steps ≡ a.steps → b.records ≡ a.records → b.text.items ≡ a.text.items ++ text → TellsPieces a (Piece.lines text ∷ []) b
+lines_told : (a b : Log) (text : List ℕ) → b.telling ≡ a.telling → b.steps ≡ a.steps → b.records ≡ a.records → b.text.items ≡ a.text.items ++ text → TellsPieces a (LogEntry.lines text ∷ []) b
 lines_told a b text telling steps records appended = record {
   telling = telling;
   steps = steps;
@@ -110,7 +110,7 @@ pub no_turns : (who : ℕ) (g : Game) (told : Last) → TurnsOf who 0 g told tol
 unfolding TurnsOf
 no_turns who g told = (refl, refl, refl)
 
-pub one_turn_more : (who more : ℕ) (g mid next : Game) (made : Turn) (before after told : Last) (first others : List Piece) → ATurn g who made first mid → after ≡ last_of made
+pub one_turn_more : (who more : ℕ) (g mid next : Game) (made : Turn) (before after told : Last) (first others : List LogEntry) → ATurn g who made first mid → after ≡ last_of made
     → TurnsOf who more mid after told others next → TurnsOf who (suc more) g before told (first ++ others) next
 unfolding TurnsOf
 one_turn_more who more g mid next made before after told first others turned is rest =
@@ -120,12 +120,12 @@ pub until_limit : (who : ℕ) (kind : StepKind) (g : Game) → TurnsUntil 0 who 
 unfolding TurnsUntil
 until_limit who kind g = (refl, refl, refl)
 
-pub until_reached : (more who : ℕ) (kind : StepKind) (g next : Game) (made : Turn) (told : Last) (first : List Piece) → ATurn g who made first next → Reaches kind made → told ≡ last_of made
+pub until_reached : (more who : ℕ) (kind : StepKind) (g next : Game) (made : Turn) (told : Last) (first : List LogEntry) → ATurn g who made first next → Reaches kind made → told ≡ last_of made
     → TurnsUntil (suc more) who kind g told first next
 unfolding TurnsUntil
 until_reached more who kind g next made told first turned reaches is = (made, first, next, turned, inl (reaches, is, refl, refl))
 
-pub until_more : (more who : ℕ) (kind : StepKind) (g mid next : Game) (made : Turn) (told : Last) (first others : List Piece) → ATurn g who made first mid → Misses kind made
+pub until_more : (more who : ℕ) (kind : StepKind) (g mid next : Game) (made : Turn) (told : Last) (first others : List LogEntry) → ATurn g who made first mid → Misses kind made
     → TurnsUntil more who kind mid told others next → TurnsUntil (suc more) who kind g told (first ++ others) next
 unfolding TurnsUntil
 until_more more who kind g mid next made told first others turned misses rest = (made, first, mid, turned, inr (misses, others, rest, refl))
@@ -136,22 +136,22 @@ pub no_worker_left : (from : ℕ) (g : Game) (some : Bool) → TurnOfEach 0 from
 unfolding TurnOfEach
 no_worker_left from g some = (refl, refl, refl)
 
-pub one_worker_more : (count from : ℕ) (g mid next : Game) (made : Turn) (before after some : Bool) (first others : List Piece) → ATurn g from made first mid
+pub one_worker_more : (count from : ℕ) (g mid next : Game) (made : Turn) (before after some : Bool) (first others : List LogEntry) → ATurn g from made first mid
     → after ≡ before || makes_step made → TurnOfEach count (from + 1) mid after some others next → TurnOfEach (suc count) from g before some (first ++ others) next
 unfolding TurnOfEach
 one_worker_more count from g mid next made before after some first others turned is rest =
     (made, first, others, mid, turned, subst (λ (b : Bool). TurnOfEach count (from + 1) mid b some others next) is rest, refl)
 
-pub last_pass : (more : ℕ) (g next : Game) (some : Bool) (pieces : List Piece) → TurnOfEach more 0 g false some pieces next → PassesToRest 0 more g pieces next
+pub last_pass : (more : ℕ) (g next : Game) (some : Bool) (pieces : List LogEntry) → TurnOfEach more 0 g false some pieces next → PassesToRest 0 more g pieces next
 unfolding PassesToRest
 last_pass more g next some pieces turns = (some, turns)
 
-pub quiet_pass : (passes more count : ℕ) (g next : Game) (pieces : List Piece) → length g.hands ≡ count → TurnOfEach count 0 g false false pieces next → PassesToRest (suc passes) more g pieces next
+pub quiet_pass : (passes more count : ℕ) (g next : Game) (pieces : List LogEntry) → length g.hands ≡ count → TurnOfEach count 0 g false false pieces next → PassesToRest (suc passes) more g pieces next
 unfolding PassesToRest
 quiet_pass passes more count g next pieces is turns =
     (false, pieces, [], next, subst (λ (n : ℕ). TurnOfEach n 0 g false false pieces next) (sym is) turns, (refl, refl), sym (append-nil pieces))
 
-pub one_pass_more : (passes more count : ℕ) (g mid next : Game) (first others : List Piece) → length g.hands ≡ count → TurnOfEach count 0 g false true first mid
+pub one_pass_more : (passes more count : ℕ) (g mid next : Game) (first others : List LogEntry) → length g.hands ≡ count → TurnOfEach count 0 g false true first mid
     → PassesToRest passes more mid others next → PassesToRest (suc passes) more g (first ++ others) next
 unfolding PassesToRest
 one_pass_more passes more count g mid next first others is turns rest =
@@ -163,12 +163,12 @@ pub no_order : (g : Game) → CarriesOutAll [] g [] g
 unfolding CarriesOutAll
 no_order g = (refl, refl)
 
-pub one_order_more : (order : Order) (orders : List Order) (g mid next : Game) (first others : List Piece) → CarriesOut order g first mid
+pub one_order_more : (order : Order) (orders : List Order) (g mid next : Game) (first others : List LogEntry) → CarriesOut order g first mid
     → CarriesOutAll orders mid others next → CarriesOutAll (order ∷ orders) g (first ++ others) next
 unfolding CarriesOutAll
 one_order_more order orders g mid next first others does rest = (first, others, mid, does, rest, refl)
 
-pub orders_from : (orders : List Order) (i : ℕ) (other : Order) (g mid next : Game) (first others : List Piece) → i < length orders → CarriesOut (get_or orders i other) g first mid
+pub orders_from : (orders : List Order) (i : ℕ) (other : Order) (g mid next : Game) (first others : List LogEntry) → i < length orders → CarriesOut (get_or orders i other) g first mid
     → CarriesOutAll (drop (i + 1) orders) mid others next → CarriesOutAll (drop i orders) g (first ++ others) next
 orders_from orders i other g mid next first others inside does rest =
     rw (drop-cons orders i other) (one_order_more (get_or orders i other) (drop (suc i) orders) g mid next first others does (rw add-one at rest))
@@ -184,46 +184,46 @@ a_round g next false decides begins stays =
 -- ---- what is told of an order
 
 -- After its steps its lines were appended, and what is told is that of the order.
-told_after : (todo done : Order) (g next : Game) (steps : List Piece) (text : List ℕ) (old mid new : Log) → todo ≡ done → TellsPieces old steps mid
-    → new.telling ≡ mid.telling → new.steps ≡ mid.steps → new.records ≡ mid.records → new.text.items ≡ mid.text.items ++ text → CarriesOut done g (steps ++ Piece.lines text ∷ []) next
-    → (pieces : List Piece) × CarriesOut todo g pieces next × TellsPieces old pieces new
+told_after : (todo done : Order) (g next : Game) (steps : List LogEntry) (text : List ℕ) (old mid new : Log) → todo ≡ done → TellsPieces old steps mid
+    → new.telling ≡ mid.telling → new.steps ≡ mid.steps → new.records ≡ mid.records → new.text.items ≡ mid.text.items ++ text → CarriesOut done g (steps ++ LogEntry.lines text ∷ []) next
+    → (pieces : List LogEntry) × CarriesOut todo g pieces next × TellsPieces old pieces new
 told_after todo done g next steps text old mid new is before telling count records prints does = (
-  steps ++ Piece.lines text ∷ [],
-  subst (λ (o : Order). CarriesOut o g (steps ++ Piece.lines text ∷ []) next) (sym is) does,
-  then_tells old mid new steps (Piece.lines text ∷ []) before (lines_told mid new text telling count records prints),
+  steps ++ LogEntry.lines text ∷ [],
+  subst (λ (o : Order). CarriesOut o g (steps ++ LogEntry.lines text ∷ []) next) (sym is) does,
+  then_tells old mid new steps (LogEntry.lines text ∷ []) before (lines_told mid new text telling count records prints),
 )
 
-pub told_of : {X E : Type 0} (todo done : Order) (g next : Game) (steps : List Piece) (text : List ℕ) (old mid new : Log) (r : Result X E) → todo ≡ done → TellsPieces old steps mid
-    → new.telling ≡ mid.telling → new.steps ≡ mid.steps → new.records ≡ mid.records → Prints mid.text.items new.text.items text r → CarriesOut done g (steps ++ Piece.lines text ∷ []) next
-    → OnOk r ((pieces : List Piece) × CarriesOut todo g pieces next × TellsPieces old pieces new)
+pub told_of : {X E : Type 0} (todo done : Order) (g next : Game) (steps : List LogEntry) (text : List ℕ) (old mid new : Log) (r : Result X E) → todo ≡ done → TellsPieces old steps mid
+    → new.telling ≡ mid.telling → new.steps ≡ mid.steps → new.records ≡ mid.records → Prints mid.text.items new.text.items text r → CarriesOut done g (steps ++ LogEntry.lines text ∷ []) next
+    → OnOk r ((pieces : List LogEntry) × CarriesOut todo g pieces next × TellsPieces old pieces new)
 told_of todo done g next steps text old mid new (Ok x) is before telling count records prints does = told_after todo done g next steps text old mid new is before telling count records prints does
 told_of todo done g next steps text old mid new (Err e) is before telling count records prints does = tt
 
 pub told_so : {X E : Type 0} (todo done : Order) (g next : Game) (text : List ℕ) (old new : Log) (r : Result X E) → todo ≡ done
-    → new.telling ≡ old.telling → new.steps ≡ old.steps → new.records ≡ old.records → OnOk r (new.text.items ≡ old.text.items ++ text) → CarriesOut done g (Piece.lines text ∷ []) next
-    → OnOk r ((pieces : List Piece) × CarriesOut todo g pieces next × TellsPieces old pieces new)
+    → new.telling ≡ old.telling → new.steps ≡ old.steps → new.records ≡ old.records → OnOk r (new.text.items ≡ old.text.items ++ text) → CarriesOut done g (LogEntry.lines text ∷ []) next
+    → OnOk r ((pieces : List LogEntry) × CarriesOut todo g pieces next × TellsPieces old pieces new)
 told_so todo done g next text old new (Ok x) is telling count records prints does = told_after todo done g next [] text old old new is (nothing_told old) telling count records prints does
 told_so todo done g next text old new (Err e) is telling count records prints does = tt
 
-pub turn_order : (worker turns : ℕ) (g : Game) (told : Last) (steps : List Piece) (next : Game) → TurnsOf worker turns g Limit told steps next
-    → CarriesOut (order.Turn worker turns) g (steps ++ Piece.lines (turn_line worker turns told) ∷ []) next
+pub turn_order : (worker turns : ℕ) (g : Game) (told : Last) (steps : List LogEntry) (next : Game) → TurnsOf worker turns g Limit told steps next
+    → CarriesOut (order.Turn worker turns) g (steps ++ LogEntry.lines (turn_line worker turns told) ∷ []) next
 unfolding CarriesOut
 turn_order worker turns g told steps next made = (told, steps, made, refl)
 
-pub until_order : (worker : ℕ) (kind : StepKind) (g : Game) (told : Last) (steps : List Piece) (next : Game) → TurnsUntil MAX_TURNS worker kind g told steps next
-    → CarriesOut (order.Until worker kind) g (steps ++ Piece.lines (until_line worker kind told) ∷ []) next
+pub until_order : (worker : ℕ) (kind : StepKind) (g : Game) (told : Last) (steps : List LogEntry) (next : Game) → TurnsUntil MAX_TURNS worker kind g told steps next
+    → CarriesOut (order.Until worker kind) g (steps ++ LogEntry.lines (until_line worker kind told) ∷ []) next
 unfolding CarriesOut
 until_order worker kind g told steps next made = (told, steps, made, refl)
 
-pub rest_order : (g next : Game) (told : Rest) (steps : List Piece) → RestsWithin MAX_TURNS g steps next → StandsAs told next → CarriesOut order.Rest g (steps ++ Piece.lines (rest_line told) ∷ []) next
+pub rest_order : (g next : Game) (told : Rest) (steps : List LogEntry) → RestsWithin MAX_TURNS g steps next → StandsAs told next → CarriesOut order.Rest g (steps ++ LogEntry.lines (rest_line told) ∷ []) next
 unfolding CarriesOut
 rest_order g next told steps made stands = (told, steps, made, stands, refl)
 
-pub round_order : (g next : Game) (began : Bool) → Rounds g began next → CarriesOut order.Round g (round_pieces began ++ Piece.lines (round_line began) ∷ []) next
+pub round_order : (g next : Game) (began : Bool) → Rounds g began next → CarriesOut order.Round g (round_pieces began ++ LogEntry.lines (round_line began) ∷ []) next
 unfolding CarriesOut
 round_order g next began made = (began, made, refl)
 
-pub show_order : (g : Game) → CarriesOut order.Show g (Piece.lines (shown g) ∷ []) g
+pub show_order : (g : Game) → CarriesOut order.Show g (LogEntry.lines (shown g) ∷ []) g
 unfolding CarriesOut
 show_order g = (refl, refl)
 

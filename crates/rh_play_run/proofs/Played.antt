@@ -7,19 +7,19 @@ use Rattle.rh_ledger.specs.declared.tally.Kind.{Kind}
 use Rattle.rh_ledger.specs.Phase.{set_after, tally_of}
 use Rattle.rh_words.specs.declared.shape.Shape.{Shape}
 use Rattle.rh_turns.specs.Game.{AllFinished, Game}
-use Rattle.rh_stepper.specs.Made.{IsMadeSoFar, TallySpec, held_first}
+use Rattle.rh_interleaving.specs.Made.{IsMadeSoFar, TallySpec, held_first}
 use Rattle.std.specs.Io.KnownBytes.{Appends}
 use Rattle.rh_ledger.specs.declared.tally.Tally.{Tally}
 use Rattle.rh_bytes.specs.Counting.{AppendsFront}
-use Rattle.rh_play.specs.Lines.{end_line, tally_line}
+use Rattle.rh_play_text.specs.Lines.{end_line, tally_line}
 use Rattle.rh_dump.specs.Dump.{dump_text}
-use Rattle.rh_play.specs.declared.play.Play.{Play}
+use Rattle.rh_play_text.specs.declared.play.Play.{Play}
 use Rattle.rh_play_run.specs.Beginning.{BeginsPlay, bits_of, held_of, work_keys}
 use Rattle.rh_play_run.specs.declared.fault.PlayRunFault.{PlayRunFault}
 use Rattle.rh_play_run.specs.declared.fault.PlayRunFault.TheVariants.{Read, Text, Start, Memory, Write}
 use Rattle.rh_play_run.specs.Run.{ClosesWith, IsAllFinished, tally_so_far, IsPlayRead, IsPlayed, IsUnplayed, IsUnrun, RunsPlay, SaysGoodPlay, closing}
 use Rattle.rh_play_run.specs.declared.log.Telling.{Telling}
-use Rattle.rh_play_run.specs.Pieces.{IsTold, Piece, steps_after, told}
+use Rattle.rh_play_run.specs.Pieces.{MayBeTold, LogEntry, steps_after, told}
 use Rattle.rh_play_run.specs.Schedule.{CarriesOutAll}
 use Rattle.rh_play_run.proofs.Begun.{matches}
 use Rattle.rh_play_run.proofs.Keeping.{schedule_keeps}
@@ -31,7 +31,7 @@ pub record IsLast (play : Play) (g : Game) : Type 0 where
   pub held : held_first g ≡ held_of play
   pub keys : g.keys ≡ work_keys play.work
 
-pub last_game : (play : Play) (first last : Game) (pieces : List Piece) → BeginsPlay play first → CarriesOutAll play.schedule.items first pieces last → IsLast play last
+pub last_game : (play : Play) (first last : Game) (pieces : List LogEntry) → BeginsPlay play first → CarriesOutAll play.schedule.items first pieces last → IsLast play last
 last_game play first last pieces begins follows =
     let kept = schedule_keeps play.schedule.items first pieces last follows in
     let start = matches play play.work begins.cells first begins.starts in
@@ -59,8 +59,8 @@ same_closing close k l S T xs ys q r s is =
     (subst (λ (x : Keys). close ≡ closing (tally_of k x ys) true) r
     (subst (λ (x : List ℕ). close ≡ closing (tally_of k S x) true) s is))
 
-pub played : (telling : Telling) (play : Play) (first last : Game) (pieces : List Piece) (body cells close : List ℕ) → BeginsPlay play first → CarriesOutAll play.schedule.items first pieces last
-    → IsTold telling (steps_after 0 pieces) → body ≡ told telling 0 pieces → IsMadeSoFar last cells → (AllFinished last → Layout cells last.shape.bits (set_after last.kind (held_first last) last.keys)) → ClosesWith last close
+pub played : (telling : Telling) (play : Play) (first last : Game) (pieces : List LogEntry) (body cells close : List ℕ) → BeginsPlay play first → CarriesOutAll play.schedule.items first pieces last
+    → MayBeTold telling (steps_after 0 pieces) → body ≡ told telling 0 pieces → IsMadeSoFar last cells → (AllFinished last → Layout cells last.shape.bits (set_after last.kind (held_first last) last.keys)) → ClosesWith last close
     → (AllFinished last → close ≡ closing (tally_of last.kind (held_first last) last.keys) true) → IsPlayed telling play (body ++ (dump_text (bits_of play) cells ++ close))
 played telling play first last pieces body cells close begins follows short is made layout closes closed =
     let end = last_game play first last pieces begins follows in

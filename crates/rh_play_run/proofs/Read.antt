@@ -3,12 +3,12 @@ use Rattle.std.proofs.Common.{◌≡◌, ℕ, ◌+◌, ◌<◌, ◌≤◌, ◌�
 use Rattle.std.proofs.lemmas.Bool.{cases_lt, lt-leb}
 use Rattle.std.specs.Io.KnownBytes.{Consumes, IsAtEnd}
 use Rattle.rh_lines.specs.Lines.{lines_of}
-use Rattle.rh_play.specs.declared.fault.PlayTextFault.{PlayTextFault}
-use Rattle.rh_play.specs.declared.fault.PlayTextKind.TheVariants as kind
-use Rattle.rh_play.specs.declared.limits.TheConstants.{MAX_TEXT_BYTES}
-use Rattle.rh_play.specs.declared.play.Play.{Play}
-use Rattle.rh_play.specs.Grammar.{HasNoFaultBefore, sayings_of}
-use Rattle.rh_play.specs.Play.{said_of}
+use Rattle.rh_play_text.specs.declared.fault.PlayTextFault.{PlayTextFault}
+use Rattle.rh_play_text.specs.declared.fault.PlayTextKind.TheVariants as kind
+use Rattle.rh_play_text.specs.declared.limits.TheConstants.{MAX_TEXT_BYTES}
+use Rattle.rh_play_text.specs.declared.play.Play.{Play}
+use Rattle.rh_play_text.specs.Grammar.{HasNoFaultBefore, sayings_of}
+use Rattle.rh_play_text.specs.Play.{said_of}
 use Rattle.rh_play_run.specs.Run.{IsLineRead, IsPlayRead, IsRefusedText, IsTextFault}
 
 -- the front is all, or too long

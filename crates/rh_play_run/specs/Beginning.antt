@@ -6,13 +6,13 @@ use Rattle.rh_layout.specs.Layout.{Keys, Layout}
 use Rattle.rh_words.specs.Parts.{usual_rooms}
 use Rattle.rh_words.specs.declared.shape.Rooms.{Rooms}
 use Rattle.rh_turns.specs.Game.{Game}
-use Rattle.rh_stepper.specs.declared.fault.PlayFault.{PlayFault}
-use Rattle.rh_stepper.specs.declared.fault.PlayFault.TheVariants.{BadKey, NoRoom}
-use Rattle.rh_stepper.specs.Start.{Refuses, StartsPieces, StartsShared, are_keys, keys_of_pieces, start_fault}
-use Rattle.rh_play.specs.declared.play.Play.{Play}
-use Rattle.rh_play.specs.declared.play.Rooms as said
-use Rattle.rh_play.specs.declared.play.Work.TheVariants.{Pieces, Share}
-use Rattle.rh_play.specs.declared.play.Work.{Work}
+use Rattle.rh_interleaving.specs.declared.fault.PlayFault.{PlayFault}
+use Rattle.rh_interleaving.specs.declared.fault.PlayFault.TheVariants.{BadKey, NoRoom}
+use Rattle.rh_interleaving.specs.Start.{Refuses, StartsPieces, StartsShared, are_keys, keys_of_pieces, start_fault}
+use Rattle.rh_play_text.specs.declared.play.Play.{Play}
+use Rattle.rh_play_text.specs.declared.play.Rooms as said
+use Rattle.rh_play_text.specs.declared.play.Work.TheVariants.{Pieces, Share}
+use Rattle.rh_play_text.specs.declared.play.Work.{Work}
 
 -- ---- what a play says
 

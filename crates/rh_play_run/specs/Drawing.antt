@@ -11,7 +11,7 @@ use Rattle.rh_draw.specs.declared.limits.TheConstants.{MAX_STEPS}
 use Rattle.rh_draw.specs.declared.records.Record.{Record}
 use Rattle.rh_draw.specs.declared.records.Window.{Window}
 use Rattle.rh_bytes.specs.Counting.{AppendsFront}
-use Rattle.rh_play.specs.declared.play.Play.{Play}
+use Rattle.rh_play_text.specs.declared.play.Play.{Play}
 use Rattle.rh_play_run.specs.declared.draw_fault.DrawFault.{DrawFault}
 use Rattle.rh_play_run.specs.declared.draw_fault.DrawFault.TheVariants as draw
 use Rattle.rh_play_run.specs.declared.fault.PlayRunFault.TheVariants as plays
@@ -74,7 +74,7 @@ IsUndrawn bytes from steps draw.TooMany = (play : Play) × IsPlayRead bytes play
 IsUndrawn bytes from steps draw.NoStep = (play : Play) × IsPlayRead bytes play × HasNoPicture play from steps draw.NoStep
 
 -- The picture or a front of it was written; or none was drawn.
-abbrev pub Draws : {X : Type 0} → (from : ℕ) (steps : Option ℕ) (bytes old new : Option (List ℕ)) → Result X DrawFault → Type 0
-Draws from steps bytes old new (Ok x) = (text : List ℕ) × IsDrawnOf bytes from steps text × Appends old new text
-Draws from steps bytes old new (Err (draw.Play plays.Write)) = (text : List ℕ) × IsDrawnOf bytes from steps text × AppendsFront old new text
-Draws from steps bytes old new (Err fault) = IsUndrawn bytes from steps fault
+abbrev pub DrawsPlay : {X : Type 0} → (from : ℕ) (steps : Option ℕ) (bytes old new : Option (List ℕ)) → Result X DrawFault → Type 0
+DrawsPlay from steps bytes old new (Ok x) = (text : List ℕ) × IsDrawnOf bytes from steps text × Appends old new text
+DrawsPlay from steps bytes old new (Err (draw.Play plays.Write)) = (text : List ℕ) × IsDrawnOf bytes from steps text × AppendsFront old new text
+DrawsPlay from steps bytes old new (Err fault) = IsUndrawn bytes from steps fault

@@ -5,19 +5,19 @@ use Rattle.rh_layout.specs.Layout.{Layout}
 use Rattle.rh_ledger.specs.declared.tally.Tally.{Tally}
 use Rattle.rh_ledger.specs.Phase.{set_after, tally_of}
 use Rattle.rh_turns.specs.Game.{AllFinished, Game}
-use Rattle.rh_stepper.specs.declared.fault.PlayFault.{PlayFault}
+use Rattle.rh_interleaving.specs.declared.fault.PlayFault.{PlayFault}
 use Rattle.rh_ledger.specs.Tally.{tally_by}
-use Rattle.rh_stepper.specs.Made.{IsMadeSoFar, TallySpec, changed_count, done_count}
+use Rattle.rh_interleaving.specs.Made.{IsMadeSoFar, TallySpec, changed_count, done_count}
 use Rattle.rh_bytes.specs.Counting.{AppendsFront}
 use Rattle.rh_dump.specs.Dump.{dump_text}
-use Rattle.rh_play.specs.declared.fault.PlayTextFault.{PlayTextFault}
-use Rattle.rh_play.specs.declared.fault.PlayTextKind.TheVariants as kind
+use Rattle.rh_play_text.specs.declared.fault.PlayTextFault.{PlayTextFault}
+use Rattle.rh_play_text.specs.declared.fault.PlayTextKind.TheVariants as kind
 use Rattle.rh_lines.specs.Lines.{lines_of}
-use Rattle.rh_play.specs.declared.limits.TheConstants.{MAX_TEXT_BYTES}
-use Rattle.rh_play.specs.declared.play.Play.{Play}
-use Rattle.rh_play.specs.Grammar.{HasNoFaultBefore, sayings_of}
-use Rattle.rh_play.specs.Play.{said_of}
-use Rattle.rh_play.specs.Lines.{end_line, tally_line}
+use Rattle.rh_play_text.specs.declared.limits.TheConstants.{MAX_TEXT_BYTES}
+use Rattle.rh_play_text.specs.declared.play.Play.{Play}
+use Rattle.rh_play_text.specs.Grammar.{HasNoFaultBefore, sayings_of}
+use Rattle.rh_play_text.specs.Play.{said_of}
+use Rattle.rh_play_text.specs.Lines.{end_line, tally_line}
 use Rattle.rh_play_run.specs.declared.fault.PlayRunFault.{PlayRunFault}
 use Rattle.rh_play_run.specs.declared.fault.PlayRunFault.TheVariants.{Read, Text, Start, Memory, Write}
 use Rattle.rh_play_run.specs.Beginning.{BeginsPlay, CanBegin, IsRefusedStart, bits_of, held_of, work_keys}
@@ -26,7 +26,7 @@ use Rattle.rh_play_run.specs.declared.limits.TheConstants.{MAX_TOLD}
 use Rattle.rh_play_run.specs.declared.ending.Played.{Played}
 use Rattle.rh_play_run.specs.declared.tell_fault.TellFault.{TellFault}
 use Rattle.rh_play_run.specs.declared.tell_fault.TellFault.TheVariants as tells
-use Rattle.rh_play_run.specs.Pieces.{IsTold, Piece, steps_after, told}
+use Rattle.rh_play_run.specs.Pieces.{MayBeTold, LogEntry, steps_after, told}
 use Rattle.rh_play_run.specs.Schedule.{CarriesOutAll}
 
 -- ---- the end of a play
@@ -68,14 +68,14 @@ pub record IsCarriedOut (play : Play) : Type 0 where
   pub first : Game
   pub last : Game
   pub begins : BeginsPlay play first
-  pub pieces : List Piece
+  pub pieces : List LogEntry
   pub follows : CarriesOutAll play.schedule.items first pieces last
 
 -- It is carried out and told so; and then the end is told.
 pub record IsPlayed (telling : Telling) (play : Play) (text : List ℕ) : Type 0 where
   pub run : IsCarriedOut play
   pub open run use *
-  pub short : IsTold telling (steps_after 0 pieces)
+  pub short : MayBeTold telling (steps_after 0 pieces)
   pub ending : List ℕ
   pub ends : EndsSoFar (bits_of play) last ending
   pub as_one : AllFinished last → EndsAsOne play ending
@@ -92,8 +92,8 @@ abbrev pub printed : Played → List ℕ
 printed played = played.body.items ++ (dump_text played.bits played.cells.items ++ played.closing.items)
 
 -- It is what is told of the play, unless the steps are too many to be told.
-pub record Plays (telling : Telling) (play : Play) (played : Played) : Type 0 where
-  pub short : IsTold telling played.steps → IsPlayed telling play (printed played)
+pub record PlaysAsTold (telling : Telling) (play : Play) (played : Played) : Type 0 where
+  pub short : MayBeTold telling played.steps → IsPlayed telling play (printed played)
   pub long : MAX_TOLD < played.steps → IsLong play
 
 -- ---- what comes of a run

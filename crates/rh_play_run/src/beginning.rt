@@ -4,14 +4,14 @@ ghost use Rattle.std.specs.Prelude.{◌≡◌, ◌^◌, ◌<◌, All, IfErr, IfO
 ghost use Rattle.std.specs.FinSet as set;
 ghost use Rattle.rh_layout.specs.Key.{IsBits, IsKey};
 ghost use Rattle.rh_layout.specs.Layout.{Layout};
-ghost use Rattle.rh_stepper.specs.Start.{IsRooms, MakesPlayer, are_keys};
+ghost use Rattle.rh_interleaving.specs.Start.{IsRooms, MakesPlayer, are_keys};
 ghost use Rattle.rh_play_run.specs.Beginning.{BeginsPlay, IsRefusedStart, IsBlank, StartsOn};
 ghost use Rattle.rh_play_run.specs.Beginning.{held_fault, player_fault};
 
 use rh_edit::SeqSet;
+use rh_interleaving::{PlayFault, Player, are_keys};
 use rh_layout::MAX_BITS;
-use rh_play::{Play, Work};
-use rh_stepper::{PlayFault, Player, are_keys};
+use rh_play_text::{Play, Work};
 use rh_words::Rooms;
 use std::alloc::{AllocError, Global};
 
@@ -102,7 +102,7 @@ fn player_on(alloc: Global, cells: &[u64], play: &Play) -> Result<Player, PlayFa
 }
 
 /// The rooms that a play says.
-fn rooms_for(said: rh_play::Rooms) -> Rooms
+fn rooms_for(said: rh_play_text::Rooms) -> Rooms
     ensures same { result ≡ record { descriptors = said.descriptors; marks = said.marks } }
     ensures limits { IsRooms result }
 {

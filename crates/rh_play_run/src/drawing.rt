@@ -5,10 +5,10 @@ ghost use Rattle.rh_bytes.specs.Counting.{CountsFault, WritesLast, inner_of};
 ghost use Rattle.rh_bytes.specs.Taking.{TakesAtMost};
 ghost use Rattle.rh_draw.specs.Records.{count_from};
 ghost use Rattle.rh_draw.specs.declared.limits.TheConstants.{MAX_STEPS};
-ghost use Rattle.rh_play.specs.declared.limits.TheConstants.{MAX_TEXT_BYTES};
+ghost use Rattle.rh_play_text.specs.declared.limits.TheConstants.{MAX_TEXT_BYTES};
 ghost use Rattle.rh_play_run.specs.Beginning.{IsBlank};
 ghost use Rattle.rh_play_run.specs.Devices.{ReadsPlay};
-ghost use Rattle.rh_play_run.specs.Drawing.{Draws, IsDrawnOf, IsRecorded, IsUnchosen, IsUndrawn, IsWindow};
+ghost use Rattle.rh_play_run.specs.Drawing.{DrawsPlay, IsDrawnOf, IsRecorded, IsUnchosen, IsUndrawn, IsWindow};
 ghost use Rattle.rh_play_run.specs.Run.{IsLong, IsUnplayed, SaysGoodPlay};
 ghost use Rattle.rh_play_run.specs.declared.limits.TheConstants.{MAX_TOLD};
 
@@ -24,7 +24,7 @@ use crate::schedule::follow;
 use crate::title::title_of;
 use rh_bytes::{Counted, write_texts};
 use rh_draw::{MAX_STEPS, Record, Recording, Window, draw, steps_from};
-use rh_play::Play;
+use rh_play_text::Play;
 use rh_words::Shape;
 use std::alloc::Global;
 use std::io::{Read, Write};
@@ -55,7 +55,7 @@ pub fn draw_play<R: Read, W: Write>(
     writer: &mut Counted<W>,
 ) -> Result<(), DrawFault>
     requires { IfSome steps (λ n. n ≤ MAX_STEPS) }
-    ensures draws { Draws from steps (R.remaining (inner_of reader.old))
+    ensures draws { DrawsPlay from steps (R.remaining (inner_of reader.old))
         (W.contents (inner_of writer.old)) (W.contents (inner_of writer.new)) result }
     ensures memory { IsErrOf result (DrawFault.Play PlayRunFault.Memory) →
         (reader.new ≡ reader.old) ⊎ SaysGoodPlay (R.remaining (inner_of reader.old)) }
@@ -63,13 +63,13 @@ pub fn draw_play<R: Read, W: Write>(
         reader.new result }
     ensures writes { WritesLast (DrawFault.Play PlayRunFault.Write) writer.old writer.new result }
 {
-    let picture = drawn(alloc, from, steps, reader)?;
+    let picture = picture_of(alloc, from, steps, reader)?;
     write_texts(writer, &[&picture])?;
     Ok(())
 }
 
 /// The picture of the play that a reader gives.
-fn drawn<R: Read>(
+fn picture_of<R: Read>(
     alloc: Global,
     from: u64,
     steps: Option<u64>,

@@ -5,14 +5,14 @@ ghost use Rattle.rh_layout.specs.Layout.{IsLayout, Layout};
 ghost use Rattle.rh_ledger.specs.Phase.{set_after, tally_of};
 ghost use Rattle.rh_words.specs.Parts.{cell_count};
 ghost use Rattle.rh_turns.specs.Game.{AllFinished};
-ghost use Rattle.rh_stepper.specs.Made.{IsMadeSoFar, held_first};
+ghost use Rattle.rh_interleaving.specs.Made.{IsMadeSoFar, held_first};
 ghost use Rattle.rh_bytes.specs.Counting.{Emits};
 ghost use Rattle.rh_play_run.specs.Run.{ClosesWith, closing, printed};
 
 use rh_bytes::{Counted, WriteFault, write_texts};
 use rh_dump::write_dump;
-use rh_play::{push_end, push_tally};
-use rh_stepper::Player;
+use rh_interleaving::Player;
+use rh_play_text::{push_end, push_tally};
 use std::alloc::{AllocError, Global};
 use std::io::Write;
 

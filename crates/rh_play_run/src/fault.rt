@@ -1,8 +1,8 @@
 //! What can go wrong.
 
 use rh_bytes::WriteFault;
-use rh_play::PlayTextFault;
-use rh_stepper::PlayFault;
+use rh_interleaving::PlayFault;
+use rh_play_text::PlayTextFault;
 use std::alloc::{AllocError, AllocFailed};
 use thiserror::Error;
 

@@ -1,8 +1,8 @@
 //! What is told of a play so far.
 
 ghost use Rattle.std.specs.Prelude.{◌≡◌, ◌<◌, [], ◌∷◌, IsFalse, IsTrue, OnOk};
-ghost use Rattle.rh_play_run.specs.Pieces.{IsTold, TellsPieces, round_pieces, turn_pieces};
-ghost use Rattle.rh_play_run.specs.Pieces.Piece.{step as step_piece};
+ghost use Rattle.rh_play_run.specs.Pieces.{MayBeTold, TellsPieces, round_pieces, turn_pieces};
+ghost use Rattle.rh_play_run.specs.Pieces.LogEntry.{step as step_piece};
 ghost use Rattle.rh_play_run.specs.declared.limits.TheConstants.{MAX_TOLD};
 
 use crate::limits::MAX_TOLD;
@@ -26,8 +26,8 @@ pub enum Telling {
 
 /// Whether all of these steps are told, where so much is told of a play.
 pub(crate) fn is_told(telling: Telling, steps: u64) -> bool
-    ensures told { IsTrue result → IsTold telling steps }
-    ensures long { IsFalse result → (MAX_TOLD < steps) × ¬ IsTold telling steps }
+    ensures told { IsTrue result → MayBeTold telling steps }
+    ensures long { IsFalse result → (MAX_TOLD < steps) × ¬ MayBeTold telling steps }
 {
     match telling {
         Telling::Orders => true,

@@ -2,14 +2,14 @@
 
 ghost use Rattle.std.specs.Prelude.{◌≡◌, ◌++◌, List, OnOk};
 ghost use Rattle.rh_words.specs.Parts.{cell_count};
-ghost use Rattle.rh_play_run.specs.Pieces.{Piece, TellsPieces};
+ghost use Rattle.rh_play_run.specs.Pieces.{LogEntry, TellsPieces};
 ghost use Rattle.rh_play_run.specs.Schedule.{CarriesOut, HasSize, Rounds, shown};
 
 use crate::log::Log;
 use crate::resting::rest;
 use crate::turns::{take_turns, take_turns_until};
-use rh_play::{MAX_TURNS, Order, push_raw, push_rest, push_round, push_turn, push_until};
-use rh_stepper::Player;
+use rh_interleaving::Player;
+use rh_play_text::{MAX_TURNS, Order, push_raw, push_rest, push_round, push_turn, push_until};
 use std::alloc::AllocError;
 
 /// How many workers and how many cells a player has.
@@ -27,7 +27,7 @@ pub(crate) fn carry_out(
     log: &mut Log,
 ) -> Result<(), AllocError>
     requires { HasSize size.workers size.cells player.old }
-    ensures { OnOk result ((pieces : List Piece) × CarriesOut order player.old pieces player.new
+    ensures { OnOk result ((pieces : List LogEntry) × CarriesOut order player.old pieces player.new
         × TellsPieces log.old pieces log.new) }
 {
     match order {

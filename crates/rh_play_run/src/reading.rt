@@ -4,12 +4,12 @@ ghost use Rattle.std.specs.Prelude.{◌≡◌, ◌≢◌, ◌+◌, ◌<◌, ◌�
 ghost use Rattle.std.specs.Io.KnownBytes.{Consumes, IsAtEnd};
 ghost use Rattle.rh_bytes.specs.Counting.{CountsFault, inner_of};
 ghost use Rattle.rh_bytes.specs.Taking.{TakesAtMost};
-ghost use Rattle.rh_play.specs.declared.limits.TheConstants.{MAX_TEXT_BYTES};
+ghost use Rattle.rh_play_text.specs.declared.limits.TheConstants.{MAX_TEXT_BYTES};
 ghost use Rattle.rh_play_run.specs.Run.{IsPlayRead, IsUnread};
 
 use crate::fault::PlayRunFault;
 use rh_bytes::{Counted, fill};
-use rh_play::{MAX_TEXT_BYTES, Play, parse_play};
+use rh_play_text::{MAX_TEXT_BYTES, Play, parse_play};
 use std::alloc::Global;
 use std::io::Read;
 

@@ -1,13 +1,13 @@
 //! Turns of all workers.
 
 ghost use Rattle.std.specs.Prelude.{◌≡◌, ◌<◌, IfOk, List, OnOk, length, false};
-ghost use Rattle.rh_play_run.specs.Pieces.{Piece, TellsPieces};
+ghost use Rattle.rh_play_run.specs.Pieces.{LogEntry, TellsPieces};
 ghost use Rattle.rh_play_run.specs.Schedule.{PassesToRest, RestsWithin, StandsAs, TurnOfEach, makes_step};
 
 use crate::log::Log;
 use crate::turns::take_turn;
-use rh_play::Rest;
-use rh_stepper::Player;
+use rh_interleaving::Player;
+use rh_play_text::Rest;
 use rh_turns::Turn;
 use std::alloc::AllocError;
 
@@ -21,7 +21,7 @@ pub(crate) fn rest(
 ) -> Result<Rest, AllocError>
     requires workers { length player.old.hands ≡ workers }
     requires some { 0 < workers }
-    ensures rests { OnOk result ((pieces : List Piece)
+    ensures rests { OnOk result ((pieces : List LogEntry)
         × RestsWithin turns player.old pieces player.new × TellsPieces log.old pieces log.new) }
     ensures stands { IfOk result (λ rest. StandsAs rest player.new) }
 {
@@ -46,7 +46,7 @@ fn take_passes(
     log: &mut Log,
 ) -> Result<(), AllocError>
     requires { length player.old.hands ≡ workers }
-    ensures { OnOk result ((pieces : List Piece)
+    ensures { OnOk result ((pieces : List LogEntry)
         × PassesToRest passes more player.old pieces player.new
         × TellsPieces log.old pieces log.new) }
 {
@@ -62,7 +62,7 @@ fn take_passes(
 
 /// One turn of each of so many workers in order, and whether one of these turns made a step.
 fn take_turn_of_each(player: &mut Player, count: usize, log: &mut Log) -> Result<bool, AllocError>
-    ensures { IfOk result (λ some. (pieces : List Piece)
+    ensures { IfOk result (λ some. (pieces : List LogEntry)
         × TurnOfEach count 0 player.old false some pieces player.new
         × TellsPieces log.old pieces log.new) }
 {

@@ -3,10 +3,10 @@
 ghost use Rattle.std.specs.Prelude.{◌≡◌, ◌⊎◌, IfErr, IfOk, IsErrOf};
 ghost use Rattle.rh_layout.specs.Layout.{IsLayout};
 ghost use Rattle.rh_bytes.specs.Counting.{WritesLast, inner_of};
-ghost use Rattle.rh_play.specs.declared.play.Play.{Play};
+ghost use Rattle.rh_play_text.specs.declared.play.Play.{Play};
 ghost use Rattle.rh_play_run.specs.Beginning.{IsBlank, workers_in};
 ghost use Rattle.rh_play_run.specs.Devices.{ReadsPlay};
-ghost use Rattle.rh_play_run.specs.Run.{IsPlayRead, IsUnplayed, IsUnrun, Plays, RunsPlay, SaysGoodPlay, TellsPlay};
+ghost use Rattle.rh_play_run.specs.Run.{IsPlayRead, IsUnplayed, IsUnrun, PlaysAsTold, RunsPlay, SaysGoodPlay, TellsPlay};
 ghost use Rattle.rh_play_run.specs.declared.log.Telling.TheVariants.{Orders};
 
 use crate::beginning::{begin, blank_cells, cells_in};
@@ -18,7 +18,7 @@ use crate::reading::read_play;
 use crate::schedule::follow;
 use crate::tell_fault::TellFault;
 use rh_bytes::Counted;
-use rh_play::{Play, Work};
+use rh_play_text::{Play, Work};
 use std::alloc::Global;
 use std::io::{Read, Write};
 
@@ -79,7 +79,7 @@ fn play_read<R: Read>(
     reader: &mut Counted<R>,
 ) -> Result<Played, PlayRunFault>
     ensures plays { IfOk result (λ played. (play : Play)
-        × IsPlayRead (R.remaining (inner_of reader.old)) play × Plays telling play played) }
+        × IsPlayRead (R.remaining (inner_of reader.old)) play × PlaysAsTold telling play played) }
     ensures layout { IfOk result (λ played. IsLayout played.bits played.cells.items) }
     ensures refused { IfErr result (IsUnrun (R.remaining (inner_of reader.old))) }
     ensures memory { IsErrOf result PlayRunFault.Memory →
@@ -100,7 +100,7 @@ fn perform(
     play: &Play,
 ) -> Result<Played, PlayRunFault>
     requires { IsBlank blank.items }
-    ensures plays { IfOk result (Plays telling play.now) }
+    ensures plays { IfOk result (PlaysAsTold telling play.now) }
     ensures layout { IfOk result (λ played. IsLayout played.bits played.cells.items) }
     ensures refused { IfErr result (IsUnplayed play.now) }
 {

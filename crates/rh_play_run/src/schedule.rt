@@ -1,13 +1,13 @@
 //! A schedule, from its first order to its last.
 
 ghost use Rattle.std.specs.Prelude.{List, OnOk};
-ghost use Rattle.rh_play_run.specs.Pieces.{Piece, TellsPieces};
+ghost use Rattle.rh_play_run.specs.Pieces.{LogEntry, TellsPieces};
 ghost use Rattle.rh_play_run.specs.Schedule.{CarriesOutAll, HasSize};
 
 use crate::log::Log;
 use crate::orders::{Size, carry_out};
-use rh_play::Order;
-use rh_stepper::Player;
+use rh_interleaving::Player;
+use rh_play_text::Order;
 use std::alloc::AllocError;
 
 /// Carries out the orders one after the other, and tells what comes of them.
@@ -18,7 +18,7 @@ pub(crate) fn follow(
     log: &mut Log,
 ) -> Result<(), AllocError>
     requires { HasSize size.workers size.cells player.old }
-    ensures { OnOk result ((pieces : List Piece)
+    ensures { OnOk result ((pieces : List LogEntry)
         × CarriesOutAll orders.now player.old pieces player.new
         × TellsPieces log.old pieces log.new) }
 {

@@ -2,7 +2,7 @@
 
 use itoa::Buffer;
 use rh_ledger::Kind;
-use rh_play::{Play, Work, push_texts};
+use rh_play_text::{Play, Work, push_texts};
 use std::alloc::{AllocError, Global};
 
 /// No more keys than these stand in a line.

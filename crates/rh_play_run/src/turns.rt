@@ -1,13 +1,13 @@
 //! Turns of one worker.
 
 ghost use Rattle.std.specs.Prelude.{◌≡◌, IfOk, IsFalse, IsTrue, List};
-ghost use Rattle.rh_play_run.specs.Pieces.{Piece, TellsPieces};
+ghost use Rattle.rh_play_run.specs.Pieces.{LogEntry, TellsPieces};
 ghost use Rattle.rh_play_run.specs.Schedule.{ATurn, Misses, Reaches, TurnsOf, TurnsUntil, last_of};
 
 use crate::log::Log;
-use rh_play::Last;
+use rh_interleaving::Player;
+use rh_play_text::Last;
 use rh_recorder::Touched;
-use rh_stepper::Player;
 use rh_turns::Turn;
 use rh_words::{Part, StepKind};
 use std::alloc::AllocError;
@@ -18,7 +18,7 @@ pub(crate) fn take_turn(
     worker: usize,
     log: &mut Log,
 ) -> Result<Turn, AllocError>
-    ensures { IfOk result (λ turn. (pieces : List Piece)
+    ensures { IfOk result (λ turn. (pieces : List LogEntry)
         × ATurn player.old worker turn pieces player.new × TellsPieces log.old pieces log.new) }
 {
     let (turn, touched) = player.trace(worker);
@@ -42,7 +42,7 @@ pub(crate) fn take_turns(
     turns: u64,
     log: &mut Log,
 ) -> Result<Last, AllocError>
-    ensures { IfOk result (λ last. (pieces : List Piece)
+    ensures { IfOk result (λ last. (pieces : List LogEntry)
         × TurnsOf worker turns player.old Last.Limit last pieces player.new
         × TellsPieces log.old pieces log.new) }
 {
@@ -63,7 +63,7 @@ pub(crate) fn take_turns_until(
     limit: u64,
     log: &mut Log,
 ) -> Result<Last, AllocError>
-    ensures { IfOk result (λ last. (pieces : List Piece)
+    ensures { IfOk result (λ last. (pieces : List LogEntry)
         × TurnsUntil limit worker kind player.old last pieces player.new
         × TellsPieces log.old pieces log.new) }
 {

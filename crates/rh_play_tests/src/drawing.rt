@@ -6,8 +6,8 @@ use crate::play_run::{NOT_BEGUN, NOT_PLAYS, QUESTIONS, many_removals};
 use rh_bytes::Counted;
 use rh_draw::MAX_STEPS;
 use rh_faulty::{FaultyReader, FaultyWriter, Refusal};
-use rh_play::{PlayTextFault, PlayTextKind};
 use rh_play_run::{DrawFault, PlayRunFault, draw_play};
+use rh_play_text::{PlayTextFault, PlayTextKind};
 use std::alloc::Global;
 use std::test::*;
 

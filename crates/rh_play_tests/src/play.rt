@@ -1,5 +1,5 @@
 use rh_ledger::Kind;
-use rh_play::*;
+use rh_play_text::*;
 use rh_words::StepKind;
 use std::alloc::{AllocFailed, Global};
 use std::test::*;

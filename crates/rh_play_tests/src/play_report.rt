@@ -1,5 +1,5 @@
 use rh_ledger::Tally;
-use rh_play::*;
+use rh_play_text::*;
 use rh_tagword::Word;
 use rh_words::StepKind;
 use std::alloc::AllocError;

@@ -1,8 +1,8 @@
 use rh_bytes::Counted;
 use rh_faulty::{FaultyReader, FaultyWriter, Refusal};
-use rh_play::{MAX_TEXT_BYTES, PlayTextFault, PlayTextKind};
+use rh_interleaving::PlayFault;
 use rh_play_run::*;
-use rh_stepper::PlayFault;
+use rh_play_text::{MAX_TEXT_BYTES, PlayTextFault, PlayTextKind};
 use std::alloc::{AllocError, Global};
 use std::test::*;
 

@@ -1,5 +1,5 @@
+use rh_interleaving::*;
 use rh_ledger::{Kind, Tally};
-use rh_stepper::*;
 use rh_tagword::Word;
 use rh_turns::Turn;
 use rh_words::{Rooms, StepKind};

@@ -12,9 +12,9 @@ ghost use Rattle.rh_play_tests.specs.Chosen.{chosen, the_shape};
 use rh_descriptor::{
     claim_key, decide_desc, open_desc, place_mark, read_word, release_cell, settle_mark, write_word,
 };
+use rh_interleaving::*;
 use rh_ledger::Kind;
 use rh_recorder::Touched;
-use rh_stepper::*;
 use rh_tagword::{State, Word, pack, unpack, unpack_control};
 use rh_turns::Turn;
 use rh_words::{First, Known, Part, Piece, Reading, Ref, Request, Rooms, Shape, Side, StepKind};

@@ -8,19 +8,19 @@
 //! run_play(alloc, &mut reader, &mut writer)?;                   // a text of turns, as it is told
 //! ```
 //!
-//! It hands on what `rh_stepper`, `rh_play` and `rh_play_run` do, with their contracts. A turn
-//! makes at most one step of the protocol on words, and at each moment each key that is done shows
-//! in the set.
+//! It hands on what `rh_interleaving`, `rh_play_text` and `rh_play_run` do, with their contracts. A
+//! turn makes at most one step of the protocol on words, and at each moment each key that is done
+//! shows in the set.
 #![tactic(auto)]
 
+pub use rh_interleaving::{PlayFault, Player};
 pub use rh_ledger::{Kind, Tally};
-pub use rh_play::{
-    Bits, Order, Play, PlayTextFault, PlayTextKind, Rooms as PlayRooms, Work, parse_play,
-};
 pub use rh_play_run::{
     DrawFault, MAX_TOLD, PlayRunFault, TellFault, Telling, draw_play, run_play, tell_play,
 };
+pub use rh_play_text::{
+    Bits, Order, Play, PlayTextFault, PlayTextKind, Rooms as PlayRooms, Work, parse_play,
+};
 pub use rh_recorder::Touched;
-pub use rh_stepper::{PlayFault, Player};
 pub use rh_turns::Turn;
 pub use rh_words::{Rooms, StepKind};

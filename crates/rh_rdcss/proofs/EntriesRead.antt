@@ -16,7 +16,7 @@ use Rattle.rh_helping.specs.Settling.{Grows}
 use Rattle.rh_helping.proofs.Growing.{seen_sub}
 use Rattle.rh_helping.proofs.Knowing.{allowed}
 use Rattle.rh_helping.proofs.Rows.{grows_read, serial_grows, serial_tells}
-use Rattle.rh_steps.specs.Relies.{Knows}
+use Rattle.rh_carrier.specs.Relies.{Knows}
 use Rattle.rh_rule.specs.declared.rule.Sitter.{Sitter}
 use Rattle.rh_rdcss.specs.Calls.{Learned}
 use Rattle.rh_rdcss.specs.Placing.{EntrySays, HasEntry, KnowsPiece, LengthSays, MayPlace, Places, TriedSo}

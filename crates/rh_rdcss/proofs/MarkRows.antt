@@ -17,7 +17,7 @@ use Rattle.rh_words.specs.declared.reference.Ref.{Ref as Reference}
 use Rattle.rh_rule.proofs.Said.{plain_said}
 use Rattle.rh_helping.proofs.Knowing.{allowed}
 use Rattle.rh_helping.proofs.Marking.{newest_word, older_word, other_word}
-use Rattle.rh_steps.specs.Relies.{Knows}
+use Rattle.rh_carrier.specs.Relies.{Knows}
 use Rattle.rh_rule.specs.declared.rule.Sitter.{Sitter}
 use Rattle.rh_rdcss.specs.Placing.{IsMarkFor, KnowsPiece, Tried, Writes, WritesRow}
 

@@ -18,7 +18,7 @@ use Rattle.rh_words.specs.Steps.Step.{reads}
 use Rattle.rh_rule.specs.declared.rule.Sitter.{Sitter}
 use Rattle.rh_rule.specs.Sound.{Finds}
 use Rattle.rh_rule.specs.Traces.{touched}
-use Rattle.rh_steps.specs.Relies.{Knows}
+use Rattle.rh_carrier.specs.Relies.{Knows}
 use Rattle.rh_helping.specs.CellContent.{state_said}
 
 -- the worker made just this step and no other: it found this word, and noted it

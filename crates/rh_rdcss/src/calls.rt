@@ -7,7 +7,7 @@ ghost use Rattle.rh_words.specs.Parts.{cell_count};
 ghost use Rattle.rh_words.specs.Steps.{IsDesc};
 ghost use Rattle.rh_words.specs.Steps.Step.{reads};
 ghost use Rattle.rh_words.specs.Words.{cell_in, ref_of};
-ghost use Rattle.rh_steps.specs.Relies.{Knows};
+ghost use Rattle.rh_carrier.specs.Relies.{Knows};
 ghost use Rattle.rh_shared.specs.Rests.{SeatKnows, StaysKnown};
 ghost use Rattle.rh_shared.specs.Seats.{IsSame, SitsSame, sitter_of, view_of};
 ghost use Rattle.rh_rdcss.specs.Calls.{HasStatus, Learned, Meets, SeenAs, StillKnows};

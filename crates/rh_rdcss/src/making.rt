@@ -6,8 +6,8 @@ ghost use Rattle.rh_shared.specs.Rests.{SeatKnows};
 ghost use Rattle.rh_shared.specs.Seats.{IsSame, sitter_of, view_of};
 ghost use Rattle.rh_rdcss.specs.Calls.{Learned};
 
+use rh_carrier::Steps;
 use rh_shared::{OnTable, Seat, Table};
-use rh_steps::Steps;
 use rh_words::Request;
 
 /// Makes the step, and answers the word that it found.

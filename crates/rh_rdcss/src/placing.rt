@@ -1,7 +1,7 @@
 //! Placing a mark.
 
 ghost use Rattle.std.specs.Prelude.{◌≡◌, ◌≢◌, ◌<◌};
-ghost use Rattle.rh_steps.specs.Relies.{Knows};
+ghost use Rattle.rh_carrier.specs.Relies.{Knows};
 ghost use Rattle.rh_shared.specs.Rests.{SeatKnows};
 ghost use Rattle.rh_shared.specs.Seats.{IsSame, SitsSame, sitter_of, view_of};
 ghost use Rattle.rh_rdcss.specs.Placing.{EntrySays, HasEntry, IsMine, KnowsPiece, Tried, TriedSo};

@@ -3,7 +3,7 @@
 ghost use Rattle.std.specs.Prelude.{◌≡◌};
 
 use crate::part::part_at;
-use rh_steps::Steps;
+use rh_carrier::Steps;
 use rh_words::{Part, Request, Shape, Side};
 
 /// What a step touched: one word, which it found so and left so.
@@ -25,7 +25,7 @@ pub struct Recorder {
 
 impl Steps for Recorder {
     ghost use Rattle.rh_recorder.specs.Records.{Records};
-    ghost use Rattle.rh_steps.specs.Relies.{Serves, Shows};
+    ghost use Rattle.rh_carrier.specs.Relies.{Serves, Shows};
 
     ghost shows = { λ z t v. Shows z t.words.items v };
 

@@ -21,7 +21,7 @@ use Rattle.rh_words.proofs.IndexLemmas.{entry_inside}
 use Rattle.rh_rule.specs.Represents.{IsCell, IsOwn, Kept, cell_number, word_at}
 use Rattle.rh_rule.specs.Core.{Core, Ruled}
 use Rattle.rh_rule.specs.Rest.{AllRest}
-use Rattle.rh_rule.specs.Wipes.{AreWiping, Begins, Rules, ShareOut, TableStarts, WipeBegins, WipeEnds, WipeStores, Wiped, row_total, wiping_view}
+use Rattle.rh_rule.specs.Wipes.{AreWiping, RoundBegins, Rules, ShareOut, TableStarts, WipeBegins, WipeEnds, WipeStores, Wiped, row_total, wiping_view}
 use Rattle.rh_rule.proofs.WritesKept.{own_index}
 
 -- ---- a table whose row words are 0
@@ -205,7 +205,7 @@ module _ (z : Shape) (words cells : List ℕ) (keep : ℕ → View) where
       (λ c lt. w.same c lt ∙ ap (λ (l : List ℕ). get_or l c 0) t.1)
       w.plain (λ i lt. w.zeros i (subst (λ (x : ℕ). i < x) (sym t.2) lt)) w.shared w.worker (λ v lt. refl)
 
-  begins_so : AreWiping z keep cells (row_total z) → Rules z words keep → Begins z words (λ v. round_view cells (keep v))
+  begins_so : AreWiping z keep cells (row_total z) → Rules z words keep → RoundBegins z words (λ v. round_view cells (keep v))
   begins_so wiping rules =
       let t = only_wiped (row_total z) wiping rules in
       let w = t.0 in record {
@@ -224,7 +224,7 @@ pub wipe_ends : WipeEnds
 wipe_ends z words cells keep wiping rules = ends_so z words cells keep wiping rules
 
 pub wiped_begins : (z : Shape) (words cells : List ℕ) (keep : ℕ → View) → AreWiping z keep cells (row_total z) → Rules z words keep
-    → Begins z words (λ v. round_view cells (keep v))
+    → RoundBegins z words (λ v. round_view cells (keep v))
 wiped_begins z words cells keep wiping rules = begins_so z words cells keep wiping rules
 
 -- ---- the start
@@ -257,7 +257,7 @@ module _ (z : Shape) (cells : List ℕ) (long : length cells ≡ cell_count z) w
   front : (c : ℕ) → c < cell_count z → get_or first_words c 0 ≡ get_or cells c 0
   front c lt = front_at cells (replicate {A = ℕ} (row_total z + 1) 0) c (let l : length cells ≡ cell_count z = long in omega arith)
 
-  pub start_begins : Begins z first_words (new_view cells)
+  pub start_begins : RoundBegins z first_words (new_view cells)
   start_begins = record {
     sized = let a = length-append cells (replicate {A = ℕ} (row_total z + 1) 0) in let b = zeros_long (row_total z + 1) in let l : length cells ≡ cell_count z = long in omega arith;
     cells = λ v c lt inside. front c inside;

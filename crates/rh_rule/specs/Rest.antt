@@ -47,7 +47,7 @@ pub record Told (w : World) (z : Shape) (keep : ℕ → View) (side : ℕ → Si
   pub workers : (i : ℕ) → i < w.act_count → (w.act i).worker < z.workers
 
 -- What the rule tells at a moment at which this is kept of a worker.
-pub record IsTold (z : Shape) (v : View) : Type 0 where
+pub record RuleTells (z : Shape) (v : View) : Type 0 where
   pub w : World
   pub keep : ℕ → View
   pub side : ℕ → Side

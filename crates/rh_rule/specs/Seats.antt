@@ -15,9 +15,9 @@ use Rattle.rh_words.specs.Words.{IsPlain}
 use Rattle.rh_words.specs.Steps.{Step, Allowed, noted, index, index_read, word_after}
 use Rattle.rh_rule.specs.Traces.{Happened, Touch, touched}
 use Rattle.rh_rule.specs.Core.{Core, Ruled}
-use Rattle.rh_rule.specs.Rest.{AllRest, IsTold, Rested}
+use Rattle.rh_rule.specs.Rest.{AllRest, RuleTells, Rested}
 use Rattle.rh_rule.specs.Sound.{Finds, Sound}
-use Rattle.rh_rule.specs.Wipes.{Begins, Rules, row_total, wiping_view}
+use Rattle.rh_rule.specs.Wipes.{RoundBegins, Rules, row_total, wiping_view}
 
 -- what a seat's view has of one worker
 abbrev pub sitter : View → List Touch → Sitter
@@ -33,7 +33,7 @@ pub record Seated (z : Shape) (keep : ℕ → View) (traces : ℕ → List Touch
 -- What happened since the round began: the workers' traces are the parts of one order of steps, and no one else made any.
 pub record Round (z : Shape) (words : List ℕ) (keep : ℕ → View) (traces : ℕ → List Touch) : Type 0 where
   pub start : List ℕ
-  pub begins : Begins z start keep
+  pub begins : RoundBegins z start keep
   pub happened : Happened start words traces
   pub beyond : (v : ℕ) → z.workers ≤ v → traces v ≡ []
 
@@ -87,7 +87,7 @@ pub record StepTells (z : Shape) (v : View) (l : List Touch) (s : Step) (word : 
   pub view : me ≡ (sitter (noted z v s word) (touched z v s word ∷ l) ∷ [], [])
   pub finds : Finds z v s word
   pub sound : Sound z (noted z v s word)
-  pub told : IsTold z (noted z v s word)
+  pub told : RuleTells z (noted z v s word)
 
 -- The seat of one worker may make each step that is allowed: it touches the step's word, notes what it found, and learns
 -- what it may rely on, and what the rule tells of all workers then.

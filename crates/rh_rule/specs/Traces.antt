@@ -32,9 +32,9 @@ Found start [] = Unit {0}
 Found start (h ∷ hs) = (h.touch.found ≡ slice_index (replayed start hs) h.touch.index) × Found start hs
 
 -- the steps of a worker among them
-abbrev pub made_by : ℕ → List Happening → List Touch
-made_by v [] = []
-made_by v (h ∷ hs) = cond (v == h.who) (h.touch ∷ made_by v hs) (made_by v hs)
+abbrev pub steps_of : ℕ → List Happening → List Touch
+steps_of v [] = []
+steps_of v (h ∷ hs) = cond (v == h.who) (h.touch ∷ steps_of v hs) (steps_of v hs)
 
 -- The steps that the workers made stand in one order, from the words at the start to those now: each found what those before
 -- it left, and each worker's trace has just its own of them.
@@ -42,4 +42,4 @@ pub record Happened (start words : List ℕ) (traces : ℕ → List Touch) : Typ
   pub history : List Happening
   pub found : Found start history
   pub words_are : words ≡ replayed start history
-  pub own : (v : ℕ) → traces v ≡ made_by v history
+  pub own : (v : ℕ) → traces v ≡ steps_of v history

@@ -47,7 +47,7 @@ pub record Wiped (z : Shape) (words : List ℕ) (keep : ℕ → View) : Type 0 w
   pub shared : ShareOut z words keep
 
 -- the words with which a round began: the cells that each worker keeps as its opening ones, and rows that were unused
-pub record Begins (z : Shape) (words : List ℕ) (keep : ℕ → View) : Type 0 where
+pub record RoundBegins (z : Shape) (words : List ℕ) (keep : ℕ → View) : Type 0 where
   pub sized : length words ≡ word_count z
   pub cells : (v c : ℕ) → v < z.workers → c < cell_count z → slice_index words c ≡ slice_index (keep v).opening c
   pub rows : (i : ℕ) → i < row_total z → slice_index words (cell_count z + i) ≡ 0

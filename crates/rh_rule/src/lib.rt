@@ -1,7 +1,7 @@
 //! The rule of a shared table, which each step of a worker keeps. Its words, and what is kept of
 //! its workers, represent a world of `rh_world` that meets the rule of worlds.
 //!
-//! `rh_run` reads the acts off it, `rh_steps` gives each worker what it relies on, and
+//! `rh_order` reads the acts off it, `rh_carrier` gives each worker what it relies on, and
 //! `rh_shared` makes it the rule of a table of `atomic_table`.
 //!
 //! Proved:

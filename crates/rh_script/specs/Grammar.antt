@@ -80,7 +80,7 @@ instruction_in (word ∷ words) = ok_or (verb_of word) BadCommand >>= (λ verb. 
 
 -- what a line says, if anything
 abbrev pub said_in : List ℕ → Result (Option Instruction) ScriptFaultKind
-said_in = texts.said_in BadCommand instruction_in
+said_in = texts.line_said BadCommand instruction_in
 
 -- ---- the lines of a script
 
@@ -110,4 +110,4 @@ script_of = read_by script_grammar
 
 -- the lines of a text before that of this number have no fault
 abbrev pub HasNoFaultBefore : ℕ → List ℕ → Type 0
-HasNoFaultBefore = texts.HasNoFaultBefore script_grammar
+HasNoFaultBefore = texts.NoFaultBefore script_grammar

@@ -25,7 +25,7 @@ planned_of plan = map planned_as plan.script.now.steps.items
 
 -- What a call answers, seen by view, is what the grammar says; want of memory says nothing of it.
 abbrev pub Answers : {X Y : Type 0} → Result Y ScriptFaultKind → (X → Y) → Result X ScriptFaultKind → Type 0
-Answers = texts.Answers Memory
+Answers = texts.AnswersExcept Memory
 
 -- the set has just the texts that are given
 abbrev pub HasJust : BTreeSet (String Global) → List (List ℕ) → Type 0

@@ -15,7 +15,7 @@ use rh_lines::{end_of_words, is_skipped, next_word, printable};
 use std::alloc::Global;
 
 /// What a line says, if it is not skipped.
-#[tactic(auto, unfolding(rh_lines::specs::Grammar::said_in))]
+#[tactic(auto, unfolding(rh_lines::specs::Grammar::line_said))]
 pub(crate) fn read_command(alloc: Global, line: &[u8]) -> Result<Option<Command>, ScriptFaultKind>
     ensures { Answers (said_in line.now) (option_map instruction_as) result }
 {

@@ -49,7 +49,7 @@ four_read a b c d rest bytes =
 not_keys : (bits : ℕ) (cells : List ℕ) → keys_of_file (snap_spelling Second bits cells) ≡ Err NotKeys
 unfolding file_keys header_at version_at
 not_keys bits cells =
-    ap (λ four. source.keys_in (((four >>= named) >>= after_version) >>= after_header)) (four_read 82 72 83 50 _ refl)
+    ap (λ four. source.keys_alone (((four >>= named) >>= after_version) >>= after_header)) (four_read 82 72 83 50 _ refl)
 
 found_keys : (file : Option File) (found : Option (List ℕ)) → IsFile file found → keys_found found ≡ keys_at_path file
 found_keys None found is = ap keys_found is

@@ -10,7 +10,7 @@ use Rattle.rh_shelf.specs.Shelf.{Files}
 use Rattle.rh_report.specs.Account.{Account}
 use Rattle.rh_script_run.specs.declared.fault.RunFault.{RunFault}
 use Rattle.rh_script_run.specs.declared.report.Report.{Report}
-use Rattle.rh_script_run.specs.Ends.{Done, Ends, EndsBy, NotBegun, SaysAll, Stopped, step_in}
+use Rattle.rh_script_run.specs.Ends.{AllDone, Ends, EndsBy, NotBegun, SaysAll, Stopped, step_in}
 use Rattle.rh_script_run.specs.Environment.{Environment}
 use Rattle.rh_script_run.specs.Meaning.{start}
 use Rattle.rh_script_run.proofs.RunLemmas.{says_more}
@@ -77,7 +77,7 @@ abbrev accounts_of : Files → List Numbered → List Account
 accounts_of files steps = (made_by (start files) steps).1
 
 module _ (files : Files) (steps : List Numbered) (old new : Environment) where
-  done_told : (report : Report) → Done files steps old new report → Told (accounts_of files steps) old.text new.text
+  done_told : (report : Report) → AllDone files steps old new report → Told (accounts_of files steps) old.text new.text
   done_told report done = record {
     said = done.accounts;
     more = [];

@@ -5,14 +5,14 @@ use Rattle.rh_report.specs.Account.{Account}
 use Rattle.rh_operations.specs.declared.cause.Cause.{Cause}
 use Rattle.rh_bytes.specs.Input.{◌>>=◌}
 use Rattle.rh_script_run.specs.declared.fault.RunFault.{RunFault}
-use Rattle.rh_script_run.specs.Meaning.{Outcome, ScriptState, outcome_at, meaning, outcome_of}
+use Rattle.rh_script_run.specs.Meaning.{CommandOutcome, ScriptState, outcome_at, meaning, outcome_of}
 use Rattle.rh_script_run.proofs.RunLemmas.{Course, reached_in, then_ok}
 
 -- what the steps make up to the first that is refused, and their accounts
 abbrev pub Made : Type 0
 Made = ScriptState × List Account
 
-unfoldable pub made_further : ScriptState → Outcome → (ScriptState → Made) → Made
+unfoldable pub made_further : ScriptState → CommandOutcome → (ScriptState → Made) → Made
 made_further w (Ok done) later = ((later done.0).0, done.1 ∷ (later done.0).1)
 made_further w (Err cause) later = (w, [])
 
@@ -20,10 +20,10 @@ unfoldable pub made_by : ScriptState → List Numbered → Made
 made_by w [] = (w, [])
 made_by w (step ∷ steps) = made_further w (outcome_of w step.instruction) (λ v. made_by v steps)
 
-pub line_ok : (line : ℕ) (outcome : Outcome) (done : ScriptState × Account) → outcome_at line outcome ≡ Ok done → outcome ≡ Ok done
+pub line_ok : (line : ℕ) (outcome : CommandOutcome) (done : ScriptState × Account) → outcome_at line outcome ≡ Ok done → outcome ≡ Ok done
 line_ok line (Ok done') done is = ap (λ (r : Result (ScriptState × Account) RunFault). unline r) is
   where
-    unline : Result (ScriptState × Account) RunFault → Outcome
+    unline : Result (ScriptState × Account) RunFault → CommandOutcome
     unline (Ok d) = Ok d
     unline (Err fault) = Err fault.cause
 line_ok line (Err cause) done is = absurd cc

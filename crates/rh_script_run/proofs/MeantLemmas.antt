@@ -19,10 +19,10 @@ use Rattle.rh_operations.specs.Refusals.{ListFails, MemoryFails, PhaseFails, Put
 use Rattle.rh_script_run.specs.declared.fault.RunFault.{RunFault}
 use Rattle.rh_script_run.specs.declared.report.Report.{Report}
 use Rattle.rh_script_run.specs.Agree.{EndsByItself, IsFound, ReadsNone, ReadsNoneAt, result_of}
-use Rattle.rh_script_run.specs.Ends.{Done, Ends, EndsBy, LeavesFiles, LeavesOthers, NotBegun, SaysAll, Stopped, step_in}
+use Rattle.rh_script_run.specs.Ends.{AllDone, Ends, EndsBy, LeavesFiles, LeavesOthers, NotBegun, SaysAll, Stopped, step_in}
 use Rattle.rh_script_run.specs.Environment.{Environment, outside_in}
 use Rattle.rh_script_run.specs.Files.{Bytes, File, FileMap, HasFiles, IsFile, Sealed}
-use Rattle.rh_script_run.specs.Meaning.{Outcome, ScriptState, keys_at_path, meaning, outcome_of, start, table_at}
+use Rattle.rh_script_run.specs.Meaning.{CommandOutcome, ScriptState, keys_at_path, meaning, outcome_of, start, table_at}
 use Rattle.rh_script_run.specs.Outside.{IsOutside}
 use Rattle.rh_script_run.proofs.MadeLemmas.{Made, made_all, made_by, made_to, refused_at}
 
@@ -79,7 +79,7 @@ no_file None found is none = refl
 no_file (Some (Bytes bytes)) found is none = let both : Some bytes ≡ None = sym is ∙ none in absurd cc
 no_file (Some (Sealed table)) found is none = let both : Some (snap_spelling Second table.bits is.0) ≡ None = sym is.3 ∙ none in absurd cc
 
-then_missing : {Y : Type 0} (r : Result Y Cause) (make : Y → Outcome) → r ≡ Err causes.Missing → (r >>= make) ≡ Err causes.Missing
+then_missing : {Y : Type 0} (r : Result Y Cause) (make : Y → CommandOutcome) → r ≡ Err causes.Missing → (r >>= make) ≡ Err causes.Missing
 then_missing r make is = ap (λ x. x >>= make) is
 
 not_there : (said : Instruction) (w : ScriptState) (now : Option Files) → LeavesOthers said w.files now → ReadsNone now said → outcome_of w said ≡ Err causes.Missing
@@ -105,7 +105,7 @@ pub record Meant (files : Files) (steps : List Numbered) (old new : Environment)
   pub written : Appends old.text new.text text
   pub has : HasFiles made.0.files new.files
 
-done_meant : (files : Files) (steps : List Numbered) (old new : Environment) (report : Report) → Done files steps old new report → Meant files steps old new (Ok report)
+done_meant : (files : Files) (steps : List Numbered) (old new : Environment) (report : Report) → AllDone files steps old new report → Meant files steps old new (Ok report)
 done_meant files steps old new report done = record {
   made = (done.world, done.accounts);
   is = made_all (start files) steps (done.world, done.accounts) done.means;

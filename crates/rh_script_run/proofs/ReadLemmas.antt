@@ -16,7 +16,7 @@ use Rattle.rh_script_run.specs.Agree.{AllReadWhere, AppendSame, EndsByItself, Is
 use Rattle.rh_script_run.specs.Ends.{Ends, SaysAll}
 use Rattle.rh_script_run.specs.Environment.{Environment}
 use Rattle.rh_script_run.specs.Files.{Bytes, FileMap, HasFiles, IsFile, Sealed, given_files, with_snapshot}
-use Rattle.rh_script_run.specs.Meaning.{Outcome, ScriptState, outcome_at, keys_at_path, list_of, meaning, with_list, with_table, outcome_of, start, table_at, held_table}
+use Rattle.rh_script_run.specs.Meaning.{CommandOutcome, ScriptState, outcome_at, keys_at_path, list_of, meaning, with_list, with_table, outcome_of, start, table_at, held_table}
 use Rattle.rh_script_run.specs.Told.{account_of}
 use Rattle.rh_script_run.proofs.RunLemmas.{Course}
 use Rattle.rh_script_run.proofs.UniqueLemmas.{one_found, one_text_of_all}
@@ -33,11 +33,11 @@ module _ (P : List ℕ → Type 0) where
   Same f g = (path : List ℕ) → P path → f path ≡ g path
 
   -- the other outcome has other files, and these at most elsewhere
-  abbrev SameOutcome : (outcome other : Outcome) → Type 0
+  abbrev SameOutcome : (outcome other : CommandOutcome) → Type 0
   SameOutcome (Ok done) other = (g : FileMap) × (Ok (with_files done.0 g, done.1) ≡ other) × Same done.0.files g
   SameOutcome (Err cause) other = Err cause ≡ other
 
-  then_same : {Y : Type 0} (r r' : Result Y Cause) (make make' : Y → Outcome) → r ≡ r' → ((y : Y) → SameOutcome (make y) (make' y)) → SameOutcome (r >>= make) (r' >>= make')
+  then_same : {Y : Type 0} (r r' : Result Y Cause) (make make' : Y → CommandOutcome) → r ≡ r' → ((y : Y) → SameOutcome (make y) (make' y)) → SameOutcome (r >>= make) (r' >>= make')
   then_same (Ok y) r' make make' same each = subst (λ x. SameOutcome (make y) (x >>= make')) same (each y)
   then_same (Err cause) r' make make' same each = ap (λ x. x >>= make') same
 
@@ -71,7 +71,7 @@ module _ (P : List ℕ → Type 0) where
   abbrev SameMade : (made other : Made) → Type 0
   SameMade made other = (g : FileMap) × ((with_files made.0 g, made.1) ≡ other) × Same made.0.files g
 
-  made_on_same : (w : ScriptState) (g : FileMap) (o o' : Outcome) (later : ScriptState → Made) → Same w.files g → SameOutcome o o' → ((v : ScriptState) (h : FileMap) → Same v.files h → SameMade (later v) (later (with_files v h))) → SameMade (made_further w o later) (made_further (with_files w g) o' later)
+  made_on_same : (w : ScriptState) (g : FileMap) (o o' : CommandOutcome) (later : ScriptState → Made) → Same w.files g → SameOutcome o o' → ((v : ScriptState) (h : FileMap) → Same v.files h → SameMade (later v) (later (with_files v h))) → SameMade (made_further w o later) (made_further (with_files w g) o' later)
   unfolding made_further
   made_on_same w g (Ok done) o' later same its rest =
       let more = rest done.0 its.0 its.2 in
@@ -89,15 +89,15 @@ module _ (P : List ℕ → Type 0) where
   result_one all account (Ok made) = refl
   result_one all account (Err fault) = refl
 
-  result_on_same : (all : List Numbered) (line : ℕ) (o o' : Outcome) (later : ScriptState → Course) → SameOutcome o o' → ((v : ScriptState) (h : FileMap) → Same v.files h → result_of all (later v) ≡ result_of all (later (with_files v h)))
+  result_on_same : (all : List Numbered) (line : ℕ) (o o' : CommandOutcome) (later : ScriptState → Course) → SameOutcome o o' → ((v : ScriptState) (h : FileMap) → Same v.files h → result_of all (later v) ≡ result_of all (later (with_files v h)))
       → result_of all (outcome_at line o >>= (λ done. later done.0 >>= (λ rest. Ok (rest.0, done.1 ∷ rest.1)))) ≡ result_of all (outcome_at line o' >>= (λ done. later done.0 >>= (λ rest. Ok (rest.0, done.1 ∷ rest.1))))
   result_on_same all line (Ok done) o' later its rest =
       result_one all done.1 (later done.0)
       ∙ rest done.0 its.0 its.2
       ∙ sym (result_one all done.1 (later (with_files done.0 its.0)))
-      ∙ ap (λ (o : Outcome). result_of all (outcome_at line o >>= (λ d. later d.0 >>= (λ others. Ok (others.0, d.1 ∷ others.1))))) its.1
+      ∙ ap (λ (o : CommandOutcome). result_of all (outcome_at line o >>= (λ d. later d.0 >>= (λ others. Ok (others.0, d.1 ∷ others.1))))) its.1
   result_on_same all line (Err cause) o' later its rest =
-      ap (λ (o : Outcome). result_of all (outcome_at line o >>= (λ d. later d.0 >>= (λ others. Ok (others.0, d.1 ∷ others.1))))) its
+      ap (λ (o : CommandOutcome). result_of all (outcome_at line o >>= (λ d. later d.0 >>= (λ others. Ok (others.0, d.1 ∷ others.1))))) its
 
   result_same : (all steps : List Numbered) (w : ScriptState) (g : FileMap) → Same w.files g → AllReadWhere P steps → result_of all (meaning w steps) ≡ result_of all (meaning (with_files w g) steps)
   unfolding meaning

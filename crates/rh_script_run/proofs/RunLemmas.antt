@@ -24,9 +24,9 @@ use Rattle.rh_script_run.specs.Files.{HasFiles, given_files}
 use Rattle.rh_operations.specs.KeyLists.{paths_of}
 use Rattle.rh_bytes.specs.Input.{◌>>=◌}
 use Rattle.rh_operations.specs.Actions.{means}
-use Rattle.rh_script_run.specs.Meaning.{ScriptState, Outcome, outcome_at, keys_at_path, held_table, list_of, meaning, outcome_of, start, table_at}
+use Rattle.rh_script_run.specs.Meaning.{ScriptState, CommandOutcome, outcome_at, keys_at_path, held_table, list_of, meaning, outcome_of, start, table_at}
 use Rattle.rh_script_run.specs.Environment.{Environment}
-use Rattle.rh_script_run.specs.Ends.{Done, EndsBy, LeavesFiles, SaysAll, Stopped, step_in}
+use Rattle.rh_script_run.specs.Ends.{AllDone, EndsBy, LeavesFiles, SaysAll, Stopped, step_in}
 use Rattle.rh_script_run.specs.Steps.{ActsOn, ComesAfter, HasList, ListsStand, Named, StepDone, names_of, world_of}
 use Rattle.rh_script_run.specs.Reached.{CarriedOut, Moment, Reached}
 use Rattle.rh_script_run.proofs.FileLemmas.{given_file}
@@ -36,10 +36,10 @@ use Rattle.rh_script_run.proofs.ListLemmas.{place_inside}
 
 -- ---- what a step does to the names
 
-abbrev as_ok : ScriptState × Account → Outcome
+abbrev as_ok : ScriptState × Account → CommandOutcome
 as_ok done = Ok done
 
-abbrev lists_of : Outcome → Named
+abbrev lists_of : CommandOutcome → Named
 lists_of (Ok done) = done.0.lists
 lists_of (Err cause) = []
 
@@ -48,7 +48,7 @@ then_ok (Ok x) f y h = (x, refl, h)
 then_ok (Err e) f y h = absurd cc
 
 same_names : (w v : ScriptState) (done : ScriptState × Account) (account : Account) → as_ok (v, account) ≡ Ok done → v.lists ≡ w.lists → names_of done.0.lists ≡ names_of w.lists ++ []
-same_names w v done account is same = ap (λ (o : Outcome). names_of (lists_of o)) (sym is) ∙ ap names_of same ∙ sym (append-nil (names_of w.lists))
+same_names w v done account is same = ap (λ (o : CommandOutcome). names_of (lists_of o)) (sym is) ∙ ap names_of same ∙ sym (append-nil (names_of w.lists))
 
 names_push : (named : Named) (name keys : List ℕ) → names_of (named ++ (name, keys) ∷ []) ≡ names_of named ++ name ∷ []
 names_push [] name keys = refl
@@ -58,10 +58,10 @@ names_after : (w : ScriptState) (said : Instruction) (done : ScriptState × Acco
 unfolding outcome_of
 names_after w (Use name path) done is =
     let s = then_ok (keys_at_path (w.files path)) _ done is in
-    ap (λ (o : Outcome). names_of (lists_of o)) (sym s.2) ∙ names_push w.lists name s.0
+    ap (λ (o : CommandOutcome). names_of (lists_of o)) (sym s.2) ∙ names_push w.lists name s.0
 names_after w (Act action name) done is =
     let s = then_ok (means action (held_table w) (list_of name w.lists)) _ done is in same_names w _ done _ s.2 refl
-names_after w (Save name) done is = ap (λ (o : Outcome). names_of (lists_of o)) (sym is) ∙ names_push w.lists name _
+names_after w (Save name) done is = ap (λ (o : CommandOutcome). names_of (lists_of o)) (sym is) ∙ names_push w.lists name _
 names_after w Clear done is = same_names w _ done _ is refl
 names_after w Dump done is = same_names w w done _ is refl
 names_after w (Snapshot path) done is = same_names w _ done _ is refl
@@ -282,7 +282,7 @@ all_carried_out files items steps i old now planned ended so_far =
     let all : take i steps ≡ steps = take_all i steps (omega (arith, all_planned items steps planned, ended)) in
     subst (λ l. CarriedOut files l now.set old now.environment) all so_far.done
 
-pub all_done : (files : Files) (steps : List Numbered) (set : Held) (old new : Environment) (commands held bits : ℕ) → CarriedOut files steps set old new → commands ≡ length steps → held ≡ finset.len set.keys → bits ≡ set.bits → new.failures ≡ old.failures → new.failed_reads ≡ old.failed_reads → new.refused_starts ≡ old.refused_starts → Done files steps old new (record { commands = commands; held = held; bits = bits })
+pub all_done : (files : Files) (steps : List Numbered) (set : Held) (old new : Environment) (commands held bits : ℕ) → CarriedOut files steps set old new → commands ≡ length steps → held ≡ finset.len set.keys → bits ≡ set.bits → new.failures ≡ old.failures → new.failed_reads ≡ old.failed_reads → new.refused_starts ≡ old.refused_starts → AllDone files steps old new (record { commands = commands; held = held; bits = bits })
 all_done files steps set old new commands held bits carried many held_is bits_is fine read started = record {
   world = world_of set carried.named carried.made;
   accounts = carried.accounts;

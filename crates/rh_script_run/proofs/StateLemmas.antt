@@ -14,10 +14,10 @@ use Rattle.rh_operations.specs.declared.cause.Cause.TheVariants as causes
 use Rattle.rh_operations.specs.declared.key_lists.KeyList.{KeyList}
 use Rattle.rh_script_run.specs.Files.{FileMap, HasFiles}
 use Rattle.rh_operations.specs.KeyLists.{Stands}
-use Rattle.rh_script_run.specs.Meaning.{ScriptState, Outcome, list_of, outcome_of}
+use Rattle.rh_script_run.specs.Meaning.{ScriptState, CommandOutcome, list_of, outcome_of}
 use Rattle.rh_script_run.specs.Ends.{IsMet, LeavesFiles, LeavesOthers, Step, TellsFront, step_in}
 use Rattle.rh_script_run.specs.Environment.{Environment}
-use Rattle.rh_script_run.specs.Steps.{ActsOn, ListsStand, Made, Makes, MakesLists, MakesState, Named, StateEnds, names_of, world_of}
+use Rattle.rh_script_run.specs.Steps.{ActsOn, ListsStand, HasMade, MakesOrRefuses, MakesLists, MakesState, Named, StateEnds, names_of, world_of}
 use Rattle.rh_script_run.specs.declared.told.Told.{Told}
 use Rattle.rh_operations.specs.Refusals.{RefusedBy}
 use Rattle.std.specs.Io.KnownBytes.{Appends}
@@ -38,7 +38,7 @@ others_left Dump files now plain has = has
 others_left (Snapshot path) files now plain has = absurd plain
 others_left (Restore path) files now plain has = has
 
-module _ (said : Instruction) (plain : IsPlain said) (outcome : Outcome) (outside : Cause → Type 0) (found : FileMap) (before now : Option Files) (same : now ≡ before) (has : HasFiles found before) where
+module _ (said : Instruction) (plain : IsPlain said) (outcome : CommandOutcome) (outside : Cause → Type 0) (found : FileMap) (before now : Option Files) (same : now ≡ before) (has : HasFiles found before) where
   still_has : HasFiles found now
   still_has = subst (HasFiles found) (sym same) has
 
@@ -53,7 +53,7 @@ module _ (said : Instruction) (plain : IsPlain said) (outcome : Outcome) (outsid
   plain_state set lists (Err cause) refused = (refused, others_left said found now plain still_has)
 
   -- where it left the lists as they were
-  pub lists_stay : (set : Held) (lists : List KeyList) (named : Named) (r : Result Told Cause) → Makes outcome outside (world_of set named found) set r → ListsStand before lists named → MakesState said outcome outside found now set lists r
+  pub lists_stay : (set : Held) (lists : List KeyList) (named : Named) (r : Result Told Cause) → MakesOrRefuses outcome outside (world_of set named found) set r → ListsStand before lists named → MakesState said outcome outside found now set lists r
   lists_stay set lists named (Ok told) made stand = plain_state set lists (Ok told) (named, made, stand)
   lists_stay set lists named (Err cause) refused stand = plain_state set lists (Err cause) refused
 
@@ -73,7 +73,7 @@ module _ (w : ScriptState) (said : Instruction) (before after : Environment) (fo
       subst (StateEnds step found set lists) (sym is) (inl (nothing, ends.0), left_by step found cause other ends.1)
 
   -- it could not be told whole
-  pub untold_ends : r ≡ Err causes.Write → (account : Account) → Made (outcome_of w said) after.files set lists account → TellsFront account before.text after.text → StateEnds step found set lists r
+  pub untold_ends : r ≡ Err causes.Write → (account : Account) → HasMade (outcome_of w said) after.files set lists account → TellsFront account before.text after.text → StateEnds step found set lists r
   untold_ends is account made told =
       let done : ScriptState × Account = (world_of set made.named made.files, account) in
       subst (StateEnds step found set lists) (sym is) (inr (refl, done, made.is, told), (done, made.is, made.has))

@@ -17,13 +17,13 @@ use Rattle.rh_script_run.specs.Told.{account_of}
 use Rattle.rh_shelf.specs.Shelf.{Files, ShelfState}
 use Rattle.rh_operations.specs.Leaves.{KeepsShelf}
 use Rattle.rh_script_run.specs.Ends.{LeavesShelf}
-use Rattle.rh_script_run.specs.Meaning.{Outcome, acts, keys_at_path, restores, table_at, uses}
+use Rattle.rh_script_run.specs.Meaning.{CommandOutcome, acts, keys_at_path, restores, table_at, uses}
 use Rattle.rh_script_run.specs.Steps.{Named, world_of}
 
 -- ---- refusals
 
 module _ {Out : Type 0} (cause : Cause) where
-  pub found_refused : {Y : Type 0} (found said : Result Y Cause) (make : Y → Outcome) → found ≡ said → (found ≡ Err cause) ⊎ Out → ((said >>= make) ≡ Err cause) ⊎ Out
+  pub found_refused : {Y : Type 0} (found said : Result Y Cause) (make : Y → CommandOutcome) → found ≡ said → (found ≡ Err cause) ⊎ Out → ((said >>= make) ≡ Err cause) ⊎ Out
   found_refused found said make same (inl is) = inl (ap (λ r. r >>= make) (sym same ∙ is))
   found_refused found said make same (inr out) = inr out
 

@@ -14,7 +14,7 @@ use Rattle.rh_operations.specs.Refusals.{RefusedBy}
 use Rattle.rh_script_run.specs.declared.fault.RunFault.{RunFault}
 use Rattle.rh_script_run.specs.declared.report.Report.{Report}
 use Rattle.rh_script_run.specs.Files.{FileMap, HasFiles, HasOthers}
-use Rattle.rh_script_run.specs.Meaning.{ScriptState, Outcome, start, meaning, outcome_of}
+use Rattle.rh_script_run.specs.Meaning.{ScriptState, CommandOutcome, start, meaning, outcome_of}
 use Rattle.rh_script_run.specs.Outside.{IsOutside}
 use Rattle.rh_script_run.specs.Environment.{Environment, outside_in}
 
@@ -65,7 +65,7 @@ TellsFront account old new = (text : List ℕ) × Says account text × AppendsFr
 -- a command that is carried out: what is said, what that means, and what was outside before and after it
 pub record Step : Type 0 where
   pub said : Instruction
-  pub outcome : Outcome
+  pub outcome : CommandOutcome
   pub before : Environment
   pub after : Environment
 
@@ -96,7 +96,7 @@ LeavesFiles step found _ = LeavesOthers step.said found step.after.files
 
 -- All steps were carried out: the text is what they have to report, the shelf has the files that they made, the report
 -- counts them and tells the table, and nothing failed meanwhile.
-pub record Done (files : Files) (steps : List Numbered) (old new : Environment) (report : Report) : Type 0 where
+pub record AllDone (files : Files) (steps : List Numbered) (old new : Environment) (report : Report) : Type 0 where
   pub world : ScriptState
   pub accounts : List Account
   pub text : List ℕ
@@ -136,5 +136,5 @@ abbrev pub NotBegun : (files : Files) → (old new : Environment) → RunFault �
 NotBegun files old new fault = (fault ≡ record { line = 0; cause = Memory }) × Appends old.text new.text [] × (new.files ≡ Some files)
 
 abbrev pub Ends : (files : Files) → List Numbered → (old new : Environment) → Result Report RunFault → Type 0
-Ends files steps old new (Ok report) = Done files steps old new report
+Ends files steps old new (Ok report) = AllDone files steps old new report
 Ends files steps old new (Err fault) = NotBegun files old new fault ⊎ Stopped files steps old new fault

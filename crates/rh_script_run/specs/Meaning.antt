@@ -46,8 +46,8 @@ list_of name lists = unwrap_or (lookup (λ other. bytes_eq other name) lists) []
 
 -- ---- what a command makes, or why it is refused
 
-abbrev pub Outcome : Type 0
-Outcome = Result (ScriptState × Account) Cause
+abbrev pub CommandOutcome : Type 0
+CommandOutcome = Result (ScriptState × Account) Cause
 
 -- the keys of the file at a path, or why it has none; a snapshot is no key file
 abbrev pub keys_at_path : Option File → Result (List ℕ) Cause
@@ -65,7 +65,7 @@ table_at (Some (Sealed table)) = Ok table
 abbrev pub with_list : ScriptState → (name keys : List ℕ) → ScriptState
 with_list w name keys = record w { lists = w.lists ++ (name, keys) ∷ [] }
 
-abbrev pub uses : ScriptState → (name path : List ℕ) → Outcome
+abbrev pub uses : ScriptState → (name path : List ℕ) → CommandOutcome
 uses w name path = keys_at_path (w.files path) >>= (λ keys. Ok (with_list w name keys, Used name (length keys)))
 
 abbrev pub held_table : ScriptState → Held
@@ -76,34 +76,34 @@ abbrev pub with_table : ScriptState → Held → ScriptState
 with_table w table = record w { held = table.keys; bits = table.bits }
 
 -- the action on the table, by the keys of the list of this name
-abbrev pub acts : Action → ScriptState → (name keys : List ℕ) → Outcome
+abbrev pub acts : Action → ScriptState → (name keys : List ℕ) → CommandOutcome
 acts action w name keys =
     means action (held_table w) keys
     >>= (λ made. Ok (with_table w made.0, account_of name (length keys) made.0 made.1))
 
 -- the keys that are held become a list, in rising order
-abbrev pub saves : ScriptState → (name : List ℕ) → Outcome
+abbrev pub saves : ScriptState → (name : List ℕ) → CommandOutcome
 saves w name = Ok (with_list w name (rising_keys w.held), Saved name (set.len w.held))
 
-abbrev pub clears : ScriptState → Outcome
+abbrev pub clears : ScriptState → CommandOutcome
 clears w = Ok (record w { held = set.empty; bits = MIN_BITS }, Cleared)
 
-abbrev pub dumps : ScriptState → Outcome
+abbrev pub dumps : ScriptState → CommandOutcome
 dumps w = Ok (w, Dumped w.held w.bits)
 
 -- the path has a snapshot of the table from now on
-abbrev pub snapshots : ScriptState → (path : List ℕ) → Outcome
+abbrev pub snapshots : ScriptState → (path : List ℕ) → CommandOutcome
 snapshots w path = Ok (record w { files = with_snapshot w.files path (held_table w) }, accounts.Sealed path (set.len w.held) w.bits)
 
 -- the table is that of the snapshot
-abbrev pub restores : ScriptState → (path : List ℕ) → Outcome
+abbrev pub restores : ScriptState → (path : List ℕ) → CommandOutcome
 restores w path =
     table_at (w.files path)
     >>= (λ table. Ok (with_table w table, Restored path (set.len table.keys) table.bits))
 
 -- With 1 and 2 held in 4 bits `keep b` of the list 1, 2 leaves both, in 3 bits. `snapshot s`, `clear` and `restore s` leave what
 -- was held before, in the same bits.
-unfoldable pub outcome_of : ScriptState → Instruction → Outcome
+unfoldable pub outcome_of : ScriptState → Instruction → CommandOutcome
 outcome_of w (instructions.Use name path) = uses w name path
 outcome_of w (instructions.Act action name) = acts action w name (list_of name w.lists)
 outcome_of w (instructions.Save name) = saves w name
@@ -114,7 +114,7 @@ outcome_of w (instructions.Restore path) = restores w path
 
 -- ---- the steps of a script
 
-abbrev pub outcome_at : ℕ → Outcome → Result (ScriptState × Account) RunFault
+abbrev pub outcome_at : ℕ → CommandOutcome → Result (ScriptState × Account) RunFault
 outcome_at line (Ok done) = Ok done
 outcome_at line (Err cause) = Err (record { line = line; cause = cause })
 

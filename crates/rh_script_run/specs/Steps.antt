@@ -18,7 +18,7 @@ use Rattle.rh_operations.specs.Refusals.{RefusedBy}
 use Rattle.rh_script_run.specs.declared.told.Told.{Told}
 use Rattle.rh_script_run.specs.Ends.{EndsBy, LeavesFiles, LeavesOthers, Step, TellsAccount}
 use Rattle.rh_script_run.specs.Files.{FileMap, HasFiles}
-use Rattle.rh_script_run.specs.Meaning.{ScriptState, Outcome, outcome_of}
+use Rattle.rh_script_run.specs.Meaning.{ScriptState, CommandOutcome, outcome_of}
 use Rattle.rh_script_run.specs.Outside.{IsOutside}
 use Rattle.rh_script_run.specs.Told.{told_as}
 
@@ -40,17 +40,17 @@ abbrev pub names_of : Named → List (List ℕ)
 names_of lists = map (λ named. named.0) lists
 
 -- A command made this world and has this to report; or it was refused.
-abbrev pub Makes : Outcome → (outside : Cause → Type 0) → (made : ScriptState) → Held → Result Told Cause → Type 0
-Makes outcome outside made set r = MatchResult r (λ told. outcome ≡ Ok (made, told_as set told)) (RefusedBy outcome outside)
+abbrev pub MakesOrRefuses : CommandOutcome → (outside : Cause → Type 0) → (made : ScriptState) → Held → Result Told Cause → Type 0
+MakesOrRefuses outcome outside made set r = MatchResult r (λ told. outcome ≡ Ok (made, told_as set told)) (RefusedBy outcome outside)
 
 -- A command that puts no file made this set and these lists of the world that it found, and has this to report; or it
 -- was refused.
-abbrev pub MakesLists : Outcome → (outside : Cause → Type 0) → (found : FileMap) → (now : Option Files) → Held → List KeyList → Result Told Cause → Type 0
+abbrev pub MakesLists : CommandOutcome → (outside : Cause → Type 0) → (found : FileMap) → (now : Option Files) → Held → List KeyList → Result Told Cause → Type 0
 MakesLists outcome outside found now set lists r =
     MatchResult r (λ told. (named : Named) × (outcome ≡ Ok (world_of set named found, told_as set told)) × ListsStand now lists named) (RefusedBy outcome outside)
 
 -- A command made this set, these lists and the files that the shelf has now, and has this to report.
-pub record Made (outcome : Outcome) (now : Option Files) (set : Held) (lists : List KeyList) (account : Account) : Type 0 where
+pub record HasMade (outcome : CommandOutcome) (now : Option Files) (set : Held) (lists : List KeyList) (account : Account) : Type 0 where
   pub named : Named
   pub files : FileMap
   pub is : outcome ≡ Ok (world_of set named files, account)
@@ -58,14 +58,14 @@ pub record Made (outcome : Outcome) (now : Option Files) (set : Held) (lists : L
   pub has : HasFiles files now
 
 -- Any command does so; or it was refused, and this is what it left of the files.
-abbrev pub MakesState : (said : Instruction) → Outcome → (outside : Cause → Type 0) → (found : FileMap) → (now : Option Files) → Held → List KeyList → Result Told Cause → Type 0
+abbrev pub MakesState : (said : Instruction) → CommandOutcome → (outside : Cause → Type 0) → (found : FileMap) → (now : Option Files) → Held → List KeyList → Result Told Cause → Type 0
 MakesState said outcome outside found now set lists r =
-    MatchResult r (λ told. Made outcome now set lists (told_as set told)) (λ cause. RefusedBy outcome outside cause × LeavesOthers said found now)
+    MatchResult r (λ told. HasMade outcome now set lists (told_as set told)) (λ cause. RefusedBy outcome outside cause × LeavesOthers said found now)
 
 -- A step made this, and told its account.
 pub record StepDone (step : Step) (set : Held) (lists : List KeyList) : Type 0 where
   pub account : Account
-  pub made : Made step.outcome step.after.files set lists account
+  pub made : HasMade step.outcome step.after.files set lists account
   pub told : TellsAccount account step.before.text step.after.text
 
 -- Any step ends so; or it was refused, or could not be told, and this is what it left of the files.

@@ -12,13 +12,13 @@ ghost use Rattle.rh_operations.specs.Refusals.{ListFails, MemoryFails, PutFails,
 ghost use Rattle.rh_script_run.specs.Ends.{LeavesShelf};
 ghost use Rattle.rh_script_run.specs.Files.{FileMap, HasFiles};
 ghost use Rattle.rh_script_run.specs.Meaning.{clears, restores, saves, snapshots, uses};
-ghost use Rattle.rh_script_run.specs.Steps.{ListsGrow, ListsStand, Makes, MakesLists, MakesState};
+ghost use Rattle.rh_script_run.specs.Steps.{ListsGrow, ListsStand, MakesOrRefuses, MakesLists, MakesState};
 ghost use Rattle.rh_script_run.specs.Steps.{Named, world_of};
 
 use crate::told::{Told, table_of};
 use rh_edit::SeqSet;
 use rh_layout::MIN_BITS;
-use rh_operations::{Cause, KeyList, Source, put_snapshot, restored, saved, use_file};
+use rh_operations::{Cause, KeyList, Source, put_snapshot, restore, save, use_file};
 use rh_report::Account;
 use rh_shelf::Lender;
 use std::alloc::Global;
@@ -63,7 +63,7 @@ pub(crate) fn save_step<'a>(
     ensures grow { OnOk result (ListsGrow (Save name.now) lists.old.items lists.new.items) }
     ensures memory { IfErr result (λ cause. cause ≡ Cause.Memory) }
 {
-    let list = saved(alloc, set)?;
+    let list = save(alloc, set)?;
     let count = list.count;
     let Ok(()) = lists.push(list) else {
         return Err(Cause::Memory);
@@ -74,7 +74,7 @@ pub(crate) fn save_step<'a>(
 /// `clear`: no key is held, in a table of the least size.
 pub(crate) fn clear_step<'a>(alloc: Global, set: &mut SeqSet) -> Result<Told<'a>, Cause>
     ensures made { (lists : Named) (files : FileMap) →
-        Makes (clears (world_of set.old lists files)) MemoryFails
+        MakesOrRefuses (clears (world_of set.old lists files)) MemoryFails
         (world_of set.new lists files) set.new result }
     ensures unchanged { OnErr result (set.new ≡ set.old) }
     ensures memory { IfErr result (λ cause. cause ≡ Cause.Memory) }
@@ -114,13 +114,13 @@ pub(crate) fn restore_step<'a, S: Lender>(
     path: &'a str,
 ) -> Result<Told<'a>, Cause>
     ensures made { (lists : Named) (files : FileMap) → HasFiles files (S.state shelf.old).files →
-        Makes (restores (world_of set.old lists files) path.now)
+        MakesOrRefuses (restores (world_of set.old lists files) path.now)
         (RestoreFails (S.state shelf.old) (S.state shelf.new))
         (world_of set.new lists files) set.new result }
     ensures unchanged { OnErr result (set.new ≡ set.old) }
     ensures shelf { UsesShelf (S.state shelf.old) (S.state shelf.new) result }
 {
-    *set = restored(alloc, shelf, path)?;
+    *set = restore(alloc, shelf, path)?;
     let table = table_of(set);
     Ok(Told::Line(Account::Restored { path, table }))
 }

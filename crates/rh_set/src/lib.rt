@@ -16,7 +16,8 @@
 //!   where that was needed, and to the least size that fits. Else the set is as it was, and why is
 //!   told by name: no key; a table of the greatest size is full; or want of memory.
 //! - `remove`, `contains`, `len`: what their names say, for every number.
-//! - `keys_into`: the rising keys stand at the front of the slice, and behind them what stood there.
+//! - `keys_into`: the rising keys stand at the front of the slice, and behind them what stood
+//!   there.
 //! - `snapshot_into`: so do the bytes of a snapshot of the set.
 //! - `from_snapshot`: the set of a snapshot of either version; other bytes are refused by the first
 //!   fault in them.

@@ -3,7 +3,7 @@ use Rattle.std.proofs.Common.{◌≡◌, ℕ, sym, subst}
 use Rattle.rh_world.specs.Sides.{claim_side}
 use Rattle.rh_words.specs.View.{View}
 use Rattle.rh_words.specs.Steps.{with_side}
-use Rattle.rh_steps.specs.Own.{IsClear}
+use Rattle.rh_carrier.specs.Own.{IsClear}
 use Rattle.rh_shared.specs.Rests.{IsRested}
 
 still_clear : (v : View) (word : ℕ) → IsClear v → IsClear (with_side v (claim_side v.side word))

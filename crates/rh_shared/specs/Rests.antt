@@ -2,11 +2,11 @@
 use Rattle.rh_world.specs.World.{Control, In}
 use Rattle.rh_world.specs.Facts.Fact.{decided}
 use Rattle.rh_words.specs.View.{OwnDesc, View, own_ref}
-use Rattle.rh_steps.specs.Own.{IsClear}
+use Rattle.rh_carrier.specs.Own.{IsClear}
 use Rattle.rh_shared.specs.Seats.{IsHere, IsSame, view_of}
 use Rattle.rh_shared.specs.declared.seat.Seat.{Seat}
 use Rattle.rh_shared.specs.declared.table.Table.{Table}
-use Rattle.rh_steps.specs.Relies.{Knows}
+use Rattle.rh_carrier.specs.Relies.{Knows}
 
 -- no own descriptor is open, nothing is owed, and of each own descriptor it is noted how it was decided
 pub record IsRested (v : View) : Type 0 where

@@ -7,10 +7,10 @@ use Rattle.rh_words.specs.declared.shape.Shape.{Shape}
 use Rattle.rh_words.specs.View.{View}
 use Rattle.rh_rule.specs.declared.rule.Sitter.{Sitter}
 use Rattle.rh_rule.specs.Seats.{NoSlot, sitter}
-use Rattle.rh_rule.specs.Rest.{IsTold}
+use Rattle.rh_rule.specs.Rest.{RuleTells}
 use Rattle.rh_rule.specs.Sound.{Finds, Sound}
 use Rattle.rh_rule.specs.Traces.{Touch, touched}
-use Rattle.rh_steps.specs.Relies.{Trusts}
+use Rattle.rh_carrier.specs.Relies.{Trusts}
 use Rattle.rh_shared.specs.declared.on_table.OnTable.{OnTable}
 use Rattle.rh_shared.specs.Traces.{trace_in}
 
@@ -44,7 +44,7 @@ pub record Steps (z : Shape) (s : Step) (t : OnTable) (v : View) (word : ℕ) (t
   pub stays : Stays t then
   pub open stays use *
   pub trace : trace_at then ≡ touched z v s word ∷ trace_at t
-  pub told : IsTold z next
+  pub told : RuleTells z next
 
 -- what a step tells the seat
 pub record Tells (z : Shape) (v : View) (s : Step) (was : Me NoSlot (List Sitter)) (word : ℕ) (me : Me NoSlot (List Sitter)) : Type 0 where
@@ -52,7 +52,7 @@ pub record Tells (z : Shape) (v : View) (s : Step) (was : Me NoSlot (List Sitter
   pub trace : trace_in me.0 ≡ touched z v s word ∷ trace_in was.0
   pub finds : Finds z v s word
   pub sound : Sound z (noted z v s word)
-  pub told : IsTold z (noted z v s word)
+  pub told : RuleTells z (noted z v s word)
 
 -- what a look tells it, which is no step
 pub record Looks (z : Shape) (v : View) (s : Step) (was : Me NoSlot (List Sitter)) (word : ℕ) (me : Me NoSlot (List Sitter)) : Type 0 where

@@ -9,7 +9,7 @@ ghost use Rattle.rh_world.specs.World.{In};
 use crate::on_table::OnTable;
 use crate::seat::Seat;
 use crate::table::Table;
-use rh_steps::Steps;
+use rh_carrier::Steps;
 use rh_words::Request;
 
 /// The next position of the list, or none at its end.

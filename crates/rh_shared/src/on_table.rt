@@ -4,7 +4,7 @@ ghost use Rattle.std.specs.Prelude.{◌≡◌};
 
 use crate::steps::{count, exchange, load, look, swap};
 use crate::table::{Inner, Table};
-use rh_steps::Steps;
+use rh_carrier::Steps;
 use rh_words::{Effect, Part, Reading, Request, Shape, Side};
 use std::marker::Brand;
 

@@ -38,7 +38,7 @@ impl MemShelf {
         ensures no_write { IsErrOf result ShelfFault.Write → ⊥ }
     {
         let bytes = self.files.get(path).ok_or(ShelfFault::Missing)?;
-        copied(alloc, bytes)
+        copy_bytes(alloc, bytes)
     }
 
     /// Counts a call that memory was refused.
@@ -62,7 +62,7 @@ impl MemShelf {
         ensures same_failures { failures_in self.new ≡ failures_in self.old }
     {
         let path = String::from_str(alloc, path)?;
-        let bytes = copied(alloc, bytes)?;
+        let bytes = copy_bytes(alloc, bytes)?;
         self.files.insert(path, bytes)?;
         Ok(())
     }
@@ -97,7 +97,7 @@ impl Shelf for MemShelf {
     }
 }
 
-fn copied(alloc: Global, bytes: &[u8]) -> Result<Vec<u8>, ShelfFault>
+fn copy_bytes(alloc: Global, bytes: &[u8]) -> Result<Vec<u8>, ShelfFault>
     ensures copy { IfOk result (λ v. v.items ≡ bytes.now) }
     ensures memory { IfErr result (λ fault. fault ≡ ShelfFault.Memory) }
 {

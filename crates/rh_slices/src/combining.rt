@@ -7,7 +7,7 @@ ghost use Rattle.rh_layout.specs.Key.{IsKey};
 ghost use Rattle.rh_slices.specs.Slices.{AreKeys, IsFirstBad, IsPut, IsWhy};
 
 use crate::refused::Refused;
-use rh_combine::{How, combined};
+use rh_combine::{How, combine};
 use rh_layout::MAX_KEY;
 use std::alloc::Global;
 
@@ -46,7 +46,7 @@ pub fn combine_into(
     ensures unchanged { OnErr result (into.new ≡ into.old) }
 {
     test_keys(lists)?;
-    let Ok(numbers) = combined(alloc, how, lists) else {
+    let Ok(numbers) = combine(alloc, how, lists) else {
         return Err(Refused::Memory);
     };
     let count = numbers.len();

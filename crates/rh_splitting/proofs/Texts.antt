@@ -6,7 +6,7 @@ use Rattle.rh_numbers.specs.declared.fault.TextFault.TheVariants as faults
 use Rattle.rh_numbers.specs.declared.limits.TheConstants.{MAX_BYTES, PART_BYTES}
 use Rattle.rh_numbers.specs.declared.line_so_far.LineSoFar.{LineSoFar}
 use Rattle.rh_numbers.specs.declared.reading.Reading.{Reading}
-use Rattle.rh_numbers.specs.Parts.{PartGives, ReadsPart, keys_read, line_reached, said_by, so_far_of}
+use Rattle.rh_numbers.specs.Parts.{PartGives, ReadsTextPart, keys_read, line_reached, said_by, so_far_of}
 use Rattle.rh_numbers.specs.Reading.{Said, Stops, said_from, text_said}
 use Rattle.rh_numbers.proofs.Fronts.{Begins, begins, behind, said_behind}
 use Rattle.rh_numbers.proofs.Meaning.{any_text_read}
@@ -58,7 +58,7 @@ part_begins part rest old new (Err (faults.NotAKey line)) gives = stops_begins (
 part_begins part rest old new (Err (faults.OutOfRange line)) gives = stops_begins (faults.OutOfRange line) (keys_read new) (said_by old (part ++ rest)) gives
 
 pub part_first : (bytes before left : Option (List ℕ)) (n : ℕ) (given : List ℕ) (old new : Reading) (r : Result Bool TextFault) → GoesOn bytes before n given (line_reached old) (so_far_of old) → keys_read old ≡ []
-    → ReadsPart before left old new r → SayFirst bytes (given ++ keys_read new)
+    → ReadsTextPart before left old new r → SayFirst bytes (given ++ keys_read new)
 part_first None before left n given old new r goes none reads = tt
 part_first (Some bytes) None left n given old new r goes none reads = absurd goes
 part_first (Some bytes) (Some rest) None n given old new r goes none reads = absurd reads.taken
@@ -78,7 +78,7 @@ first_of_them (Some bytes) given keys front key more is (others, say) = (
 -- ---- how the text ends
 
 pub text_ends : (bytes before left : Option (List ℕ)) (n : ℕ) (given : List ℕ) (old new : Reading) (r : Bool) → r ≡ false → GoesOn bytes before n given (line_reached old) (so_far_of old) → keys_read old ≡ []
-    → ReadsPart before left old new (Ok r) → IsTextFrom bytes left (given ++ keys_read new)
+    → ReadsTextPart before left old new (Ok r) → IsTextFrom bytes left (given ++ keys_read new)
 text_ends bytes before left n given old new true is goes none reads = absurd cc
 text_ends None before left n given old new false is goes none reads = tt
 text_ends (Some bytes) None left n given old new false is goes none reads = absurd goes
@@ -88,13 +88,13 @@ text_ends (Some bytes) (Some rest) (Some more) n given old new false is goes non
     (any_text_read bytes (given ++ keys_read new) (goes.0 ∙ ap (said_from given (line_reached old) (so_far_of old)) whole ∙ behind_given given reads.part old none ∙ ap (behind given) reads.gives.1), reads.gives.0)
 
 pub text_goes_on : (bytes before left : Option (List ℕ)) (n : ℕ) (given : List ℕ) (old new : Reading) (r : Bool) → r ≡ true → GoesOn bytes before n given (line_reached old) (so_far_of old) → keys_read old ≡ []
-    → ReadsPart before left old new (Ok r) → GoesOn bytes left (n + PART_BYTES) (given ++ keys_read new) (line_reached new) (so_far_of new)
+    → ReadsTextPart before left old new (Ok r) → GoesOn bytes left (n + PART_BYTES) (given ++ keys_read new) (line_reached new) (so_far_of new)
 text_goes_on bytes before left n given old new false is goes none reads = absurd cc
 text_goes_on bytes before left n given old new true is goes none reads =
     goes_on bytes before left n PART_BYTES reads.part given (given ++ keys_read new) (line_reached old) (line_reached new) (so_far_of old) (so_far_of new) goes reads.taken reads.gives.0 (goes_behind given reads.part old new none reads.gives.1)
 
 pub still_fresh : (bytes before left : Option (List ℕ)) (n : ℕ) (given : List ℕ) (old new : Reading) (r : Bool) → r ≡ true → Fresh bytes before n given (line_reached old) (so_far_of old) → keys_read old ≡ []
-    → ReadsPart before left old new (Ok r) → Fresh bytes left (n + PART_BYTES) (given ++ keys_read new) (line_reached new) (so_far_of new)
+    → ReadsTextPart before left old new (Ok r) → Fresh bytes left (n + PART_BYTES) (given ++ keys_read new) (line_reached new) (so_far_of new)
 still_fresh bytes before left n given old new false is fresh none reads = absurd cc
 still_fresh bytes before left n given old new true is fresh none reads =
     fresh_after bytes before left n PART_BYTES reads.part given (given ++ keys_read new) (line_reached old) (line_reached new) (so_far_of old) (so_far_of new) fresh reads.taken reads.gives.0 (goes_behind given reads.part old new none reads.gives.1)
@@ -104,7 +104,7 @@ stops_there : (bytes rest given : List ℕ) (old new : Reading) (e : TextFault) 
 stops_there bytes rest given old new e here is = here ∙ ap (behind given) is
 
 pub text_stops : (bytes before left : Option (List ℕ)) (count : ℕ) (given : List ℕ) (old new : Reading) (e : TextFault) → GoesOn bytes before (PART_BYTES * count) given (line_reached old) (so_far_of old)
-    → Fresh bytes before (PART_BYTES * count) given (line_reached old) (so_far_of old) → keys_read old ≡ [] → ReadsPart before left old new (Err e) → e ≢ faults.TooMany → e ≢ faults.TooLong → SayThen bytes left (given ++ keys_read new) e
+    → Fresh bytes before (PART_BYTES * count) given (line_reached old) (so_far_of old) → keys_read old ≡ [] → ReadsTextPart before left old new (Err e) → e ≢ faults.TooMany → e ≢ faults.TooLong → SayThen bytes left (given ++ keys_read new) e
 text_stops None before left count given old new e goes fresh none reads many long = tt
 text_stops (Some bytes) None left count given old new e goes fresh none reads many long = absurd goes
 text_stops (Some bytes) (Some rest) None count given old new e goes fresh none reads many long = absurd reads.taken
@@ -131,7 +131,7 @@ text_too_long (Some bytes) (Some rest) n given line so_far goes long = (omega (a
 
 -- ---- how much of it was taken
 
-pub takes_part : (bytes before left : Option (List ℕ)) (n : ℕ) (given : List ℕ) (old new : Reading) (r : Result Bool TextFault) → Fresh bytes before n given (line_reached old) (so_far_of old) → ReadsPart before left old new r → TakesText bytes left
+pub takes_part : (bytes before left : Option (List ℕ)) (n : ℕ) (given : List ℕ) (old new : Reading) (r : Result Bool TextFault) → Fresh bytes before n given (line_reached old) (so_far_of old) → ReadsTextPart before left old new r → TakesText bytes left
 takes_part bytes before left n given old new r (front, taken, count, on) reads = record {
   before = front;
   last = reads.part;

@@ -11,10 +11,10 @@ abbrev pub parts_for : ℕ → ℕ
 parts_for keys = (keys - 1) / KEYS_A_PART + 1
 
 -- how many keys so many bytes may be
-abbrev pub keys_in : Source → ℕ → ℕ
-keys_in Text bytes = bytes / BYTES_A_LINE
-keys_in Keys bytes = bytes / BYTES_A_KEY
+abbrev pub most_keys_in : Source → ℕ → ℕ
+most_keys_in Text bytes = bytes / BYTES_A_LINE
+most_keys_in Keys bytes = bytes / BYTES_A_KEY
 
 -- how many parts are made of an input of so many bytes
 abbrev pub parts_chosen : Source → ℕ → ℕ
-parts_chosen source bytes = min (parts_for (keys_in source bytes)) MAX_PARTS
+parts_chosen source bytes = min (parts_for (most_keys_in source bytes)) MAX_PARTS

@@ -120,7 +120,7 @@ TakesOfSource sources.Keys bytes left r = TakesOfFile bytes left (fault_in_file 
 
 abbrev pub NoReadFailedOf : {X : Type 0} → Source → Result X SplitFault → Type 0
 NoReadFailedOf sources.Text r = NoReadFailed r
-NoReadFailedOf sources.Keys r = in_files.NoReadFailed (fault_in_file r)
+NoReadFailedOf sources.Keys r = in_files.NoKeyReadFailed (fault_in_file r)
 
 -- the fault of an input that cannot be read
 abbrev pub unread : Source → SplitFault

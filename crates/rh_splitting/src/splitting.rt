@@ -3,7 +3,7 @@
 ghost use Rattle.std.specs.Prelude.{◌<◌, ◌≤◌, IsErrOf, length};
 ghost use Rattle.rh_bytes.specs.Counting.{Counts, inner_of};
 ghost use Rattle.rh_parts.specs.declared.part.TheConstants.{MAX_PARTS};
-ghost use Rattle.rh_key_files.specs.Limits.{NoReadFailed, TakesOfFile};
+ghost use Rattle.rh_key_files.specs.Limits.{NoKeyReadFailed, TakesOfFile};
 ghost use Rattle.rh_key_files.specs.Reading.{BeginsWithHeader, TakesGoodKeys, header_at};
 ghost use Rattle.rh_splitting.specs.Splitting as splits;
 ghost use Rattle.rh_splitting.specs.Splitting.{Puts, Splits, SplitsFile, TakesText, fault_in_file};
@@ -82,7 +82,7 @@ pub fn split_file<R: Read, W: Write>(
     ensures tested { IsErrOf result (SplitFault.Keys KeyFault.Read) → TakesGoodKeys header_at
         (R.remaining (inner_of reader.old)) (R.remaining (inner_of reader.new)) }
     ensures counts { Counts (IsErrOf result (SplitFault.Keys KeyFault.Read))
-        (NoReadFailed (fault_in_file result)) reader.old reader.new }
+        (NoKeyReadFailed (fault_in_file result)) reader.old reader.new }
     ensures memory { IsErrOf result (SplitFault.Keys KeyFault.Memory) →
         BeginsWithHeader (R.remaining (inner_of reader.old)) }
 {

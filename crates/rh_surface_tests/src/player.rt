@@ -1,7 +1,7 @@
 //! Players and plays.
 
 ghost use Rattle.rh_words.specs.Parts.{cell_count};
-ghost use Rattle.rh_stepper.specs.Start.{IsRooms};
+ghost use Rattle.rh_interleaving.specs.Start.{IsRooms};
 ghost use Rattle.std.specs.Prelude.{length, ◌<◌, ◌≡◌};
 
 use rh_descriptor::Rooms;

@@ -1,6 +1,6 @@
 -- The tags of the elements: a name, and attributes of which no two have one name.
 use Rattle.std.specs.Prelude.{ℕ, List, ◌++◌, codes, decimal}
-use Rattle.rh_play.specs.Words.{kind_word}
+use Rattle.rh_play_text.specs.Words.{kind_word}
 use Rattle.rh_svg.specs.Looks.{look_word, tint}
 use Rattle.rh_svg.specs.Outlines.{outline, reference}
 use Rattle.rh_svg.specs.declared.tags.TheConstants.{NAMESPACE}

@@ -4,7 +4,7 @@ ghost use Rattle.std.specs.Prelude.{◌≡◌, ◌++◌, OnOk};
 ghost use Rattle.rh_svg.specs.Markup.{DrawsAfter, escaped, escaped_byte, labelled, leaf, text_of};
 
 use crate::tags::{Tag, close, open};
-use rh_play::push_texts;
+use rh_play_text::push_texts;
 use std::alloc::AllocError;
 
 // Appends a text so that it has no markup.
@@ -41,7 +41,7 @@ pub fn leaf(out: &mut Vec<u8>, given: Tag) -> Result<(), AllocError>
 
 /// Appends an element that holds a text.
 #[tactic(auto, unfolding(crate::specs::Markup::render))]
-pub fn labelled(out: &mut Vec<u8>, tag: Tag, label: &[u8]) -> Result<(), AllocError>
+pub fn put_text(out: &mut Vec<u8>, tag: Tag, label: &[u8]) -> Result<(), AllocError>
     ensures { DrawsAfter out.old.items out.new.items (labelled tag label.now) result }
 {
     open(out, tag)?;

@@ -1,14 +1,14 @@
 //! The tags of the elements.
 
 ghost use Rattle.std.specs.Prelude.{◌≡◌};
-ghost use Rattle.rh_play.specs.Appending.{Prints};
+ghost use Rattle.rh_play_text.specs.Appending.{Prints};
 ghost use Rattle.rh_svg.specs.Tags.{end_tag, name, start_tag};
 ghost use Rattle.rh_svg.specs.declared.tags.Tag.TheVariants.{Box, Dot, Label, Line, Mark, Outline, Svg};
 
 use crate::looks::Look;
 use crate::outlines::{outline, reference};
 use itoa::Buffer;
-use rh_play::{kind_word, push_texts};
+use rh_play_text::{kind_word, push_texts};
 use rh_words::StepKind;
 use std::alloc::AllocError;
 

@@ -7,9 +7,9 @@ use Rattle.rh_world.specs.Acts.{is_success}
 use Rattle.rh_words.specs.View.{OwnDesc, View, own_ref}
 use Rattle.rh_rule.specs.Rest.{is_noted_success, made}
 use Rattle.rh_rule.proofs.Telling.{OneResult, noted_same, same_filtered, success_noted}
-use Rattle.rh_steps.specs.Own.{IsClear}
+use Rattle.rh_carrier.specs.Own.{IsClear}
 use Rattle.rh_words.specs.declared.shape.Shape.{Shape}
-use Rattle.rh_steps.specs.Relies.{Knows}
+use Rattle.rh_carrier.specs.Relies.{Knows}
 use Rattle.rh_shared.specs.Rests.{IsRested}
 use Rattle.rh_swaps.specs.Swaps.{HasNoted}
 

@@ -8,7 +8,7 @@ use Rattle.rh_rule.proofs.SeatsKept.{noted_opening, noted_worker}
 use Rattle.rh_helping.specs.declared.machine.Ended.{Ended}
 use Rattle.rh_helping.specs.Made.{HasMadeStep}
 use Rattle.rh_helping.specs.Next.{Work}
-use Rattle.rh_helping.specs.Next.Outcome.{Closed}
+use Rattle.rh_helping.specs.Next.StageOutcome.{Closed}
 use Rattle.rh_helping.specs.Stepping.{HasGoneOn}
 use Rattle.rh_helping.specs.Work.{FailsWithin, HasEnded}
 use Rattle.rh_shared.specs.Sits.{Sits, Stays, Steps}

@@ -13,7 +13,7 @@ use Rattle.rh_words.specs.declared.shape.Shape.{Shape}
 use Rattle.rh_words.specs.View.{View, own_ref}
 use Rattle.rh_rule.specs.Rest.{made}
 use Rattle.rh_helping.specs.Opening.{next_own}
-use Rattle.rh_steps.specs.Relies.{Knows}
+use Rattle.rh_carrier.specs.Relies.{Knows}
 use Rattle.rh_shared.specs.Rests.{IsRested}
 use Rattle.rh_shared.specs.declared.on_table.OnTable.{OnTable}
 use Rattle.rh_swaps.specs.Swaps.{BecameOf, HasCarriedOut, HasOpened, RestSpec, Swaps}

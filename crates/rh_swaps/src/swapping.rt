@@ -1,9 +1,9 @@
 //! An own K-CAS: its descriptor is opened, and carried out.
 
 ghost use Rattle.std.specs.Prelude.{◌≡◌, ◌⊎◌, Some};
-ghost use Rattle.rh_rule.specs.Rest.{IsTold};
+ghost use Rattle.rh_rule.specs.Rest.{RuleTells};
 ghost use Rattle.rh_words.specs.Steps.{AreEntries};
-ghost use Rattle.rh_steps.specs.Own.{KnowsOwn, OwesNothing};
+ghost use Rattle.rh_carrier.specs.Own.{KnowsOwn, OwesNothing};
 ghost use Rattle.rh_helping.specs.Goal.{opened_by, own_of};
 ghost use Rattle.rh_helping.specs.Machine.{work_of};
 ghost use Rattle.rh_helping.specs.Opening.{MayOpen, next_own};
@@ -13,7 +13,7 @@ ghost use Rattle.rh_swaps.specs.Swaps.{HasCarriedOut, HasNoRoom, HasOpened, Swap
 ghost use Rattle.rh_swaps.specs.declared.swapping.Outcome.TheVariants.{Spent};
 ghost use Rattle.rh_shared.specs.Seats.{view_of};
 ghost use Rattle.rh_shared.specs.Sits.{Sits, StaysTrusted};
-ghost use Rattle.rh_steps.specs.Relies.{Trusts};
+ghost use Rattle.rh_carrier.specs.Relies.{Trusts};
 
 use rh_helping::{Ended, Machine, OpenDesc, Opening, Progress};
 use rh_layout::Entry;
@@ -43,7 +43,7 @@ pub fn kcas<R: Wait>(rt: &R, table: &Table, seat: &mut Seat, entries: &[Entry]) 
     ensures full { HasNoRoom table.now.shape (view_of seat.old) (view_of seat.old) →
         (seat.new ≡ seat.old) × (result ≡ Spent) }
     ensures swaps { Swaps table.now.shape entries.now (view_of seat.old) (view_of seat.new) result }
-    ensures told { (seat.new ≡ seat.old) ⊎ IsTold table.now.shape (view_of seat.new) }
+    ensures told { (seat.new ≡ seat.old) ⊎ RuleTells table.now.shape (view_of seat.new) }
 {
     let shape = table.shape;
     if shape.rooms.descriptors <= seat.side.next_number

@@ -27,9 +27,9 @@ use Rattle.rh_rule.proofs.SeatsKept.{new_at, there}
 use Rattle.rh_shared.specs.declared.table.Table.{Table}
 use Rattle.rh_world.specs.World.{In}
 use Rattle.rh_rule.specs.Wipes.{row_total}
-use Rattle.rh_run.specs.Run.{ProgressInvariant, RunInvariant}
-use Rattle.rh_run.specs.Laws.{started}
-use Rattle.rh_run.proofs.Turning.{run_starts}
+use Rattle.rh_order.specs.Run.{ProgressInvariant, RunInvariant}
+use Rattle.rh_order.specs.Laws.{started}
+use Rattle.rh_order.proofs.Turning.{run_starts}
 use Rattle.rh_shared.specs.Crews.{HasAll, IsFresh, views_of}
 use Rattle.rh_threads.specs.Crew.{CanWork}
 use Rattle.rh_threads.specs.Hands.{HandStands, answer, left_over, progress_by}

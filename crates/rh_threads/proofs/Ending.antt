@@ -17,15 +17,15 @@ use Rattle.rh_acts.specs.Workers.{LeavesRoom, how_many}
 use Rattle.rh_ledger.specs.Tally.{tally_by}
 use Rattle.rh_rule.specs.declared.rule.Sitter.{Sitter}
 use Rattle.rh_words.specs.Parts.{cell_count}
-use Rattle.rh_run.specs.History.{value_of}
+use Rattle.rh_order.specs.History.{value_of}
 use Rattle.rh_rule.specs.Seats.{AreMade, Spans}
 use Rattle.rh_rule.proofs.SeatsKept.{item_at, there}
-use Rattle.rh_run.specs.Claimed.{FoundEnd, all_claimed, claimed}
-use Rattle.rh_run.specs.Laws.{FinalSpec}
-use Rattle.rh_run.specs.Run.{Run}
-use Rattle.rh_run.specs.Words.{cells_held}
-use Rattle.rh_run.proofs.Answering.{run_answers}
-use Rattle.rh_run.proofs.Sharing.{claims_at, claims_size, run_shared_ends, shared_out}
+use Rattle.rh_order.specs.Claimed.{FoundEnd, all_claimed, claimed}
+use Rattle.rh_order.specs.Laws.{FinalSpec}
+use Rattle.rh_order.specs.Run.{Run}
+use Rattle.rh_order.specs.Words.{cells_held}
+use Rattle.rh_order.proofs.Answering.{run_answers}
+use Rattle.rh_order.proofs.Sharing.{claims_at, claims_size, run_shared_ends, shared_out}
 use Rattle.rh_shared.specs.Ends.{Leaves}
 use Rattle.rh_threads.specs.Hands.{Answer, InPairs, IsFinished, IsHand, answer, keys_done, left_over, positions_of, told_of}
 use Rattle.rh_threads.specs.Made.{HasWorkedOut, first_set}

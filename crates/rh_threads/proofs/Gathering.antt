@@ -9,10 +9,10 @@ use Rattle.rh_rule.specs.declared.rule.Sitter.{Sitter}
 use Rattle.rh_words.specs.View.{View, round_view}
 use Rattle.rh_rule.specs.Seats.{AreMade, Spans, all_views, sitter, InView}
 use Rattle.rh_rule.proofs.SeatsKept.{item_at, of_map, there}
-use Rattle.rh_run.specs.Run.{ProgressInvariant, RunInvariant}
-use Rattle.rh_run.specs.Words.{IsWiped}
-use Rattle.rh_run.proofs.Stepping.{run_gathers}
-use Rattle.rh_run.proofs.Turning.{run_rounds}
+use Rattle.rh_order.specs.Run.{ProgressInvariant, RunInvariant}
+use Rattle.rh_order.specs.Words.{IsWiped}
+use Rattle.rh_order.proofs.Stepping.{run_gathers}
+use Rattle.rh_order.proofs.Turning.{run_rounds}
 use Rattle.rh_threads.specs.Hands.{Answer, Answered, Past, HandStands, keys_done, progress_by, told_of, InPairs, IsHand}
 use Rattle.rh_threads.specs.Rounds.{Comes, Setting, past_of, run_of, at_table}
 use Rattle.rh_threads.specs.declared.hand.Hand.{Hand}

@@ -22,12 +22,12 @@ use Rattle.rh_rule.specs.Represents.{numbers_of}
 use Rattle.rh_helping.specs.Opening.{next_own}
 use Rattle.rh_helping.specs.declared.machine.Ended.{Ended}
 use Rattle.rh_helping.specs.declared.machine.Ended.TheVariants as ended
-use Rattle.rh_run.specs.History.{act_of, is_current, kept_of, own_acts_of, value_of}
-use Rattle.rh_run.specs.OwnActs.{Orderly}
-use Rattle.rh_run.specs.Known.{KnowsHeld}
-use Rattle.rh_run.specs.Laws.{furthered}
-use Rattle.rh_run.specs.Run.{Progress, ProgressInvariant}
-use Rattle.rh_run.proofs.Stepping.{act_done, none_done, opened_more, opened_same, told_done}
+use Rattle.rh_order.specs.History.{act_of, is_current, kept_of, own_acts_of, value_of}
+use Rattle.rh_order.specs.OwnActs.{Orderly}
+use Rattle.rh_order.specs.Known.{KnowsHeld}
+use Rattle.rh_order.specs.Laws.{furthered}
+use Rattle.rh_order.specs.Run.{Progress, ProgressInvariant}
+use Rattle.rh_order.proofs.Stepping.{act_done, none_done, opened_more, opened_same, told_done}
 use Rattle.rh_shared.specs.Rests.{IsRested, StaysAtRest}
 use Rattle.rh_swaps.specs.Swaps.{HasGivenUp, IsSeen, RestSpec, Swaps}
 use Rattle.rh_swaps.specs.Swaps.{HasReadCell as WasRead}

@@ -14,10 +14,10 @@ use Rattle.rh_words.specs.declared.shape.Shape.{Shape}
 use Rattle.rh_words.specs.View.{View}
 use Rattle.rh_words.specs.Steps.{Allowed, Step, noted}
 use Rattle.rh_rule.specs.Sound.{Sound}
-use Rattle.rh_run.specs.Claimed.{claimed}
-use Rattle.rh_run.specs.Laws.{furthered}
-use Rattle.rh_run.specs.Run.{Progress, ProgressInvariant}
-use Rattle.rh_run.proofs.Stepping.{worker_claims}
+use Rattle.rh_order.specs.Claimed.{claimed}
+use Rattle.rh_order.specs.Laws.{furthered}
+use Rattle.rh_order.specs.Run.{Progress, ProgressInvariant}
+use Rattle.rh_order.proofs.Stepping.{worker_claims}
 use Rattle.rh_threads.specs.Keys.{Furthers}
 use Rattle.rh_threads.specs.Hands.{Answer, Past, HandStands, answer, keys_done, left_over, positions_of, progress_by, told_of, HasClaimed}
 use Rattle.rh_threads.specs.declared.hand.Hand.{Hand}
@@ -26,8 +26,8 @@ use Rattle.rh_shared.specs.declared.table.Table.{Table}
 use Rattle.rh_threads.specs.Crew.{WorksOn}
 use Rattle.rh_threads.proofs.Keying.{stays_on}
 use Rattle.rh_world.specs.World.{In}
-use Rattle.rh_steps.specs.Own.{IsClear}
-use Rattle.rh_steps.specs.Relies.{Knows}
+use Rattle.rh_carrier.specs.Own.{IsClear}
+use Rattle.rh_carrier.specs.Relies.{Knows}
 
 -- ---- the positions that it claimed
 

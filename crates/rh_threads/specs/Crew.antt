@@ -15,8 +15,8 @@ use Rattle.rh_runner.specs.declared.runner.PhaseFault.{PhaseFault}
 use Rattle.rh_runner.specs.declared.runner.PhaseFault.TheVariants.{Memory, NoThread}
 use Rattle.rh_threads.specs.declared.fault.Fault.{Fault}
 use Rattle.rh_threads.specs.declared.fault.Fault.TheVariants as faults
-use Rattle.rh_threads.specs.declared.crew.Refused.{Refused}
-use Rattle.rh_threads.specs.declared.crew.Refused.TheVariants.{NotAllowed, NotStarted}
+use Rattle.rh_threads.specs.declared.crew.RefusedStart.{RefusedStart}
+use Rattle.rh_threads.specs.declared.crew.RefusedStart.TheVariants.{NotAllowed, NotStarted}
 
 -- it rests at its seat, with its hand, at a list of so many keys as the table says
 pub record IsAtWork (t : Table) (keys : List ℕ) (h : Hand) (s : Seat) : Type 0 where
@@ -75,12 +75,12 @@ abbrev pub AllMayStart : (allows : ℕ → Bool) → (first count : ℕ) → Typ
 AllMayStart allows first count = (w : ℕ) → first < w → w < first + count → allows w ≡ true
 
 -- Why they did not: one is not allowed to start, or the system refused the thread of one that is.
-abbrev pub RefusedBy : (allows : ℕ → Bool) → Refused → Type 0
+abbrev pub RefusedBy : (allows : ℕ → Bool) → RefusedStart → Type 0
 RefusedBy allows (NotAllowed worker) = allows worker ≡ false
 RefusedBy allows (NotStarted worker) = allows worker ≡ true
 
 -- What is answered of these workers: each after the first may start, or one of several was refused a thread.
-abbrev pub Heeds : {A : Type 0} → (allows : ℕ → Bool) → (first count : ℕ) → Result A Refused → Type 0
+abbrev pub Heeds : {A : Type 0} → (allows : ℕ → Bool) → (first count : ℕ) → Result A RefusedStart → Type 0
 Heeds allows first count (Ok x) = AllMayStart allows first count
 Heeds allows first count (Err why) = (1 < count) × RefusedBy allows why
 

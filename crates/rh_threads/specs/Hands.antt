@@ -11,8 +11,8 @@ use Rattle.rh_acts.specs.Workers.{how_many}
 use Rattle.rh_rule.specs.declared.rule.Sitter.{Sitter}
 use Rattle.rh_words.specs.declared.shape.Shape.{Shape}
 use Rattle.rh_words.specs.View.{View}
-use Rattle.rh_run.specs.Claimed.{FoundEnd, claimed}
-use Rattle.rh_run.specs.Run.{Progress, ProgressInvariant}
+use Rattle.rh_order.specs.Claimed.{FoundEnd, claimed}
+use Rattle.rh_order.specs.Run.{Progress, ProgressInvariant}
 use Rattle.rh_worker.specs.Worker.{HasNoRoom}
 use Rattle.rh_threads.specs.Buffer.{HasBufferRoom}
 use Rattle.rh_threads.specs.declared.hand.Hand.{Hand}

@@ -7,17 +7,17 @@ use Rattle.rh_acts.specs.Act.{Act}
 use Rattle.rh_acts.specs.Done.{Does, IsTold, Kept}
 use Rattle.rh_words.specs.declared.shape.Shape.{Shape}
 use Rattle.rh_words.specs.View.{View}
-use Rattle.rh_run.specs.History.{kept_of, own_acts_of}
+use Rattle.rh_order.specs.History.{kept_of, own_acts_of}
 use Rattle.rh_shared.specs.Rests.{SeatRests}
 use Rattle.rh_shared.specs.Seats.{view_of}
 use Rattle.rh_shared.specs.declared.seat.Seat.{Seat}
 use Rattle.rh_shared.specs.declared.table.Table.{Table}
-use Rattle.rh_run.specs.Laws.{furthered}
-use Rattle.rh_run.specs.Run.{Progress, ProgressInvariant}
+use Rattle.rh_order.specs.Laws.{furthered}
+use Rattle.rh_order.specs.Run.{Progress, ProgressInvariant}
 use Rattle.rh_worker.specs.Deciding.{IsLeftOpenBy, IsPlan}
 use Rattle.rh_worker.specs.Reading.{HasScanned, IsToldAnew}
 use Rattle.rh_worker.specs.Worker.{HasNoRoom}
-use Rattle.rh_threads.specs.declared.key.Task.{Task}
+use Rattle.rh_threads.specs.declared.key.KeyTask.{KeyTask}
 use Rattle.rh_threads.specs.declared.key.Scanned.{Scanned}
 use Rattle.rh_threads.specs.declared.key.Scanned.TheVariants as scanned
 use Rattle.rh_threads.specs.declared.key.Tried.{Tried}
@@ -79,10 +79,10 @@ pub record LeavesOpen (z : Shape) (kind : Kind) (k count : ℕ) (v next : View) 
   pub read : HasScanned z (kept_of z v) next k seen count
   pub open_by : IsLeftOpenBy kind z.bits k seen []
 
-abbrev pub IsUndoneYet : {R : Type 0} → Task R → (s then : Seat) → Type 0
+abbrev pub IsUndoneYet : {R : Type 0} → KeyTask R → (s then : Seat) → Type 0
 IsUndoneYet task s then = IsUndone task.table.now.shape task.kind task.key (view_of s) (view_of then)
 
-abbrev pub IsDoneNow : {R : Type 0} → Task R → (s then : Seat) → (told : Bool) → Type 0
+abbrev pub IsDoneNow : {R : Type 0} → KeyTask R → (s then : Seat) → (told : Bool) → Type 0
 IsDoneNow task s then told = IsDoneSo task.table.now.shape task.kind task.key (view_of s) (view_of then) told
 
 -- what a scan leads to, with room for so many cells
@@ -92,13 +92,13 @@ LeadsTo z kind k room v next entries (scanned.Acts p) = IsPlan kind z.bits k ent
 LeadsTo z kind k room v next entries scanned.Longer = LeavesOpen z kind k room v next
 LeadsTo z kind k room v next entries scanned.Spent = z.rooms.marks ≤ next.marks_used
 
-pub record IsScannedSo {R : Type 0} (task : Task R) (room : ℕ) (s then : Seat) (entries : List Entry) (to : Scanned) : Type 0 where
+pub record IsScannedSo {R : Type 0} (task : KeyTask R) (room : ℕ) (s then : Seat) (entries : List Entry) (to : Scanned) : Type 0 where
   pub reads : HasOnlyRead task.table.now.shape task.kind task.key (view_of s) (view_of then)
   pub open reads use *
   pub leads : LeadsTo task.table.now.shape task.kind task.key room (view_of s) (view_of then) entries to
 
 -- What came of a try, with room for so many cells. Each that is made again has used up a number of a descriptor.
-abbrev pub IsTriedSo : {R : Type 0} → Task R → (room : ℕ) → (s then : Seat) → Tried → Type 0
+abbrev pub IsTriedSo : {R : Type 0} → KeyTask R → (room : ℕ) → (s then : Seat) → Tried → Type 0
 IsTriedSo task room s then (tried.Done told) = IsDoneNow task s then told
 IsTriedSo task room s then tried.Again = IsUndoneYet task s then × ((view_of then).next_number ≡ suc (view_of s).next_number)
 IsTriedSo task room s then tried.Longer = IsUndoneYet task s then × ((view_of then).next_number ≡ (view_of s).next_number)
@@ -106,6 +106,6 @@ IsTriedSo task room s then tried.Longer = IsUndoneYet task s then × ((view_of t
 IsTriedSo task room s then tried.Spent = IsUndoneYet task s then × HasNoRoom task.table.now.shape (view_of then)
 
 -- It is done, with this answer, or too little room is left for it.
-abbrev pub IsEndedSo : {R : Type 0} → Task R → (s then : Seat) → Option Bool → Type 0
+abbrev pub IsEndedSo : {R : Type 0} → KeyTask R → (s then : Seat) → Option Bool → Type 0
 IsEndedSo task s then (Some told) = IsDoneNow task s then told
 IsEndedSo task s then None = IsUndoneYet task s then × HasNoRoom task.table.now.shape (view_of then)

@@ -8,7 +8,7 @@ use Rattle.rh_words.specs.View.{View}
 use Rattle.rh_shared.specs.Crews.{HasAll, IsQuiet, views_of}
 use Rattle.rh_shared.specs.declared.table.Table.{Table}
 use Rattle.rh_rule.specs.Seats.{InView}
-use Rattle.rh_run.specs.Run.{Run, RunInvariant}
+use Rattle.rh_order.specs.Run.{Run, RunInvariant}
 use Rattle.rh_threads.specs.Crew.{IsCrew}
 use Rattle.rh_threads.specs.Hands.{AllStand, IsFinished, Past}
 use Rattle.rh_threads.specs.declared.crew.Crew.{Crew}

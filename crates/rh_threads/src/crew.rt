@@ -43,7 +43,7 @@ impl Starts for AllStart {
 
 /// Why a thread was not started.
 #[derive(Clone, Copy)]
-pub enum Refused {
+pub enum RefusedStart {
     /// The half whose first worker this is may have none.
     NotAllowed { worker: usize },
     /// The system refused that of this half.
@@ -69,7 +69,7 @@ struct HalfOf<'a, S> {
     crew: Snapshot<Crew>,
 }
 
-impl<'a, S: Starts> Promise<Result<Crew, Refused>> for HalfOf<'a, S> {
+impl<'a, S: Starts> Promise<Result<Crew, RefusedStart>> for HalfOf<'a, S> {
     ghost kept_by = { λ p r. IfOk r (HaveWorked p.table.now p.keys.now p.crew.value)
         × Heeds (S.allows p.starts.now) p.crew.value.seat.side.worker
         p.crew.value.seat.count r };
@@ -130,7 +130,7 @@ pub(crate) fn run<R: Threads + Wait + Sync, G: Gate + Sync, S: Starts + Sync>(
     keys: &[u64],
     gate: &G,
     starts: &S,
-) -> Result<Crew, Refused>
+) -> Result<Crew, RefusedStart>
     requires can { CanWork table.now keys.now crew }
     ensures worked { IfOk result (HaveWorked table.now keys.now crew) }
     ensures starts { Heeds (S.allows starts.now) crew.seat.side.worker crew.seat.count
@@ -142,12 +142,12 @@ pub(crate) fn run<R: Threads + Wait + Sync, G: Gate + Sync, S: Starts + Sync>(
     let (left, right) = cut(table, keys, crew);
     let at = right.seat.side.worker;
     if !starts.allowed(at) {
-        return Err(Refused::NotAllowed { worker: at });
+        return Err(RefusedStart::NotAllowed { worker: at });
     }
     let (left, right) = thread::scope(
         thread::scope_env(),
         rt,
-        move |scope| -> Result<(Crew, Crew), Refused>
+        move |scope| -> Result<(Crew, Crew), RefusedStart>
             requires { IsSync R.row × IsSync G.row × IsSync S.row × CanWork table.now keys.now left
                 × CanWork table.now keys.now right × (S.allows starts.now at ≡ true) }
             ensures { IfOk result (λ r. HaveWorked table.entry.now keys.entry.now left r.0
@@ -165,7 +165,7 @@ pub(crate) fn run<R: Threads + Wait + Sync, G: Gate + Sync, S: Starts + Sync>(
             };
             let started = scope.spawn_with(
                 promise,
-                move || -> Result<Crew, Refused>
+                move || -> Result<Crew, RefusedStart>
                     requires { IsSync R.row × IsSync G.row × IsSync S.row
                         × CanWork table.now keys.now right }
                     ensures { IfOk result (HaveWorked table.entry.now keys.entry.now right)
@@ -179,7 +179,7 @@ pub(crate) fn run<R: Threads + Wait + Sync, G: Gate + Sync, S: Starts + Sync>(
                     let theirs = child.join(rt);
                     Ok((mine?, theirs?))
                 }
-                Err(_) => Err(Refused::NotStarted { worker: at }),
+                Err(_) => Err(RefusedStart::NotStarted { worker: at }),
             }
         },
     )?;

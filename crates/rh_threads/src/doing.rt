@@ -8,7 +8,7 @@ ghost use Rattle.rh_shared.specs.Seats.{view_of};
 
 use crate::gate::Gate;
 use crate::hand::Hand;
-use crate::key::Task;
+use crate::key::KeyTask;
 use rh_shared::{Seat, Table, claim};
 use std::sync::Wait;
 
@@ -31,7 +31,7 @@ pub(crate) fn do_keys<R: Wait, G: Gate>(
         if !next_key(table, seat, hand, keys, gate) {
             return;
         }
-        let task = Task {
+        let task = KeyTask {
             rt,
             table,
             kind: hand.kind,

@@ -1,6 +1,6 @@
 //! Why a phase was not carried out.
 
-use crate::crew::Refused;
+use crate::crew::RefusedStart;
 use rh_runner::PhaseFault;
 use std::alloc::AllocError;
 
@@ -8,7 +8,7 @@ use std::alloc::AllocError;
 #[derive(Clone, Copy)]
 pub enum Fault {
     Memory,
-    Refused(Refused),
+    Refused(RefusedStart),
 }
 
 impl From<AllocError> for Fault {
@@ -22,13 +22,13 @@ impl From<AllocError> for Fault {
     }
 }
 
-impl From<Refused> for Fault {
+impl From<RefusedStart> for Fault {
     ghost use Rattle.std.specs.Prelude.{◌≡◌};
     ghost use Rattle.rh_threads.specs.declared.fault.Fault.TheVariants as faults;
 
     ghost from_gives = { λ why fault. fault ≡ faults.Refused why };
 
-    fn from(why: Refused) -> Fault {
+    fn from(why: RefusedStart) -> Fault {
         Fault::Refused(why)
     }
 }

@@ -16,7 +16,7 @@ use std::sync::Wait;
 
 /// A key that a worker is to do, and the table at which it has its seat.
 #[derive(Drop)]
-pub struct Task<'a, R> {
+pub struct KeyTask<'a, R> {
     pub rt: &'a R,
     pub table: &'a Table,
     pub kind: Kind,
@@ -50,7 +50,7 @@ enum Scanned {
     Spent,
 }
 
-impl<R: Wait> Task<'_, R> {
+impl<R: Wait> KeyTask<'_, R> {
     ghost use Rattle.std.specs.Prelude.{length};
     ghost use Rattle.rh_shared.specs.Rests.{SeatRests, StaysAtRest};
     ghost use Rattle.rh_threads.specs.Buffer.{HasBufferRoom, IsRoom};
@@ -130,7 +130,7 @@ impl<R: Wait> Task<'_, R> {
         ensures scans { IsScannedSo self.now (length seen.old) seat.old seat.new entries.new
             result }
     {
-        let Task {
+        let KeyTask {
             rt,
             table,
             kind,

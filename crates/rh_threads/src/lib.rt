@@ -16,11 +16,11 @@
 //!   On a fault the cells are as they were.
 //! - With any room for a worker that does for one key: where it is used up, a round more takes
 //!   place. No worker stops in a round before that but at the end of the list.
-//! - `Task::try_key`, for the seat of one worker at rest: its own acts grew by just one, which does
-//!   the key. Or they are as before and the cells that it read since, from the key's home on, tell
-//!   the answer. Or it is not done, and the own acts are as before: another worker came between,
-//!   which took a number of a descriptor; or as many cells as there is room for were read and
-//!   decide nothing; or too little room is left. The seat is at rest again.
+//! - `KeyTask::try_key`, for the seat of one worker at rest: its own acts grew by just one, which
+//!   does the key. Or they are as before and the cells that it read since, from the key's home on,
+//!   tell the answer. Or it is not done, and the own acts are as before: another worker came
+//!   between, which took a number of a descriptor; or as many cells as there is room for were read
+//!   and decide nothing; or too little room is left. The seat is at rest again.
 //! - A refused start is one that was forbidden, or that the system refused where it was not.
 //! - `Gate::after` is called with the seat of one worker at rest, of which what is kept says that
 //!   it did this key so, with this answer.
@@ -43,9 +43,9 @@ mod rounds;
 mod seated;
 mod threads;
 
-pub use crew::{AllStart, Refused, Starts};
+pub use crew::{AllStart, RefusedStart, Starts};
 pub use fault::Fault;
 pub use gate::{Gate, OpenGate};
-pub use key::{Task, Tried};
+pub use key::{KeyTask, Tried};
 pub use phase::Phase;
 pub use threads::Threads;

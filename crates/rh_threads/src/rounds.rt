@@ -6,7 +6,7 @@ ghost use Rattle.rh_threads.specs.Crew.{CanWork, Heeds};
 ghost use Rattle.rh_threads.specs.Hands.{IsFinished};
 ghost use Rattle.rh_threads.specs.Rounds.{HaveDone};
 
-use crate::crew::{Crew, Refused, Starts, run};
+use crate::crew::{Crew, RefusedStart, Starts, run};
 use crate::gate::Gate;
 use crate::hand::Hand;
 use rh_shared::{Table, wipe};
@@ -22,7 +22,7 @@ pub(crate) fn rounds<R: Threads + Wait + Sync, G: Gate + Sync, S: Starts + Sync>
     keys: &[u64],
     gate: &G,
     starts: &S,
-) -> Result<Crew, Refused>
+) -> Result<Crew, RefusedStart>
     requires can { CanWork table.now keys.now crew }
     requires all { HasAll table.now crew.seat }
     ensures done { IfOk result (HaveDone table.now keys.now crew) }

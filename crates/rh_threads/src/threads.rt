@@ -40,7 +40,7 @@ impl Threads {
     }
 
     /// What is told of the fault. A start that was refused is counted.
-    fn told(&mut self, fault: Fault) -> PhaseFault
+    fn phase_fault(&mut self, fault: Fault) -> PhaseFault
         ensures workers { self.new.workers ≡ self.old.workers }
         ensures told { result ≡ told_as fault }
         ensures counted { self.new.refused_starts ≡ refused_with fault self.old.refused_starts }
@@ -69,7 +69,7 @@ impl Runner for Threads {
         let phase = Phase::new(bits, self.workers, Rooms::usual(), kind, keys);
         match phase.change(rt, alloc, cells, &OpenGate, &AllStart) {
             Ok(tally) => Ok(tally),
-            Err(fault) => Err(self.told(fault)),
+            Err(fault) => Err(self.phase_fault(fault)),
         }
     }
 
@@ -84,7 +84,7 @@ impl Runner for Threads {
         let phase = Phase::new(bits, self.workers, Rooms::usual(), Kind::Ask, keys);
         match phase.ask(rt, alloc, cells, &OpenGate, &AllStart) {
             Ok(found) => Ok(found),
-            Err(fault) => Err(self.told(fault)),
+            Err(fault) => Err(self.phase_fault(fault)),
         }
     }
 }

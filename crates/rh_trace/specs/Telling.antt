@@ -2,7 +2,7 @@
 use Rattle.std.specs.Prelude.{ℕ, ◌==◌, if◌then◌else◌, List, [], ◌++◌, Option, Some, None, codes, decimal}
 use Rattle.rh_words.specs.declared.shape.Part.{Part}
 use Rattle.rh_words.specs.declared.shape.Part.TheVariants.{Cell, Control, Serial, Length, EntryCell, EntryOld, EntryNew, MarkSerial, MarkDesc, MarkEntry, Reason, Counter}
-use Rattle.rh_play.specs.Words.{kind_word}
+use Rattle.rh_play_text.specs.Words.{kind_word}
 use Rattle.rh_tagword.specs.Control.{control_in}
 use Rattle.rh_tagword.specs.Word.{word_in}
 use Rattle.rh_tagword.specs.declared.control.State.{State}

@@ -1,7 +1,7 @@
 //! The lines, each appended whole. Where a growth was refused, the text is as it was.
 
 ghost use Rattle.std.specs.Prelude.{◌≡◌, ◌++◌};
-ghost use Rattle.rh_play.specs.Appending.{Prints};
+ghost use Rattle.rh_play_text.specs.Appending.{Prints};
 ghost use Rattle.rh_trace.specs.Phrases.{phrase_text};
 ghost use Rattle.rh_trace.specs.Telling.{change_text, step_line, step_text, word_text};
 
@@ -9,7 +9,7 @@ use crate::phrase::{Phrase, digits};
 use crate::traced::Traced;
 use crate::words::{part_phrase, word_phrase};
 use itoa::Buffer;
-use rh_play::{kind_word, push_texts};
+use rh_play_text::{kind_word, push_texts};
 use rh_recorder::Touched;
 use rh_words::Part;
 use std::alloc::AllocError;

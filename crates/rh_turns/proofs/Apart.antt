@@ -14,8 +14,8 @@ use Rattle.rh_words.specs.View.{View, new_view}
 use Rattle.rh_rule.specs.Core.{Core}
 use Rattle.rh_rule.specs.Rest.{Told}
 use Rattle.rh_rule.proofs.Telling.{tells}
-use Rattle.rh_run.specs.Claimed.{claimed}
-use Rattle.rh_run.proofs.Sharing.{from, rising}
+use Rattle.rh_order.specs.Claimed.{claimed}
+use Rattle.rh_order.proofs.Sharing.{from, rising}
 use Rattle.rh_turns.specs.declared.hand.Hand.{Hand}
 use Rattle.rh_turns.specs.declared.hand.Share.{Share}
 use Rattle.rh_turns.specs.declared.hand.Share.TheVariants.{Piece, Claims}

@@ -15,11 +15,11 @@ use Rattle.rh_words.specs.View.{View, new_view}
 use Rattle.rh_rule.specs.Rest.{AllRest}
 use Rattle.rh_acts.specs.Workers.{LeavesRoom, counted, joined, piece, sum_of_all}
 use Rattle.rh_ledger.specs.Tally.{tally_by}
-use Rattle.rh_run.specs.Claimed.{FoundEnd, claimed}
-use Rattle.rh_run.specs.Laws.{FinalSpec}
-use Rattle.rh_run.specs.Words.{cells_held}
-use Rattle.rh_run.proofs.Ending.{held_now, run_ends, same_sums}
-use Rattle.rh_run.proofs.Sharing.{claims_at, claims_size, run_shared_ends, shared_out}
+use Rattle.rh_order.specs.Claimed.{FoundEnd, claimed}
+use Rattle.rh_order.specs.Laws.{FinalSpec}
+use Rattle.rh_order.specs.Words.{cells_held}
+use Rattle.rh_order.proofs.Ending.{held_now, run_ends, same_sums}
+use Rattle.rh_order.proofs.Sharing.{claims_at, claims_size, run_shared_ends, shared_out}
 use Rattle.rh_turns.specs.declared.hand.Hand.{Hand}
 use Rattle.rh_turns.specs.declared.hand.Share.{Share}
 use Rattle.rh_turns.specs.declared.hand.Share.TheVariants.{Piece, Claims}

@@ -11,8 +11,8 @@ use Rattle.rh_words.specs.Words.{ref_of}
 use Rattle.rh_helping.specs.Goal.{debt_of}
 use Rattle.rh_helping.specs.Held.{IsHeld, KnowsOld}
 use Rattle.rh_helping.specs.declared.goal.Owed.{Owed}
-use Rattle.rh_run.specs.Known.{NotesOld}
-use Rattle.rh_run.specs.Words.{HoldsCell, MarkIsFor}
+use Rattle.rh_order.specs.Known.{NotesOld}
+use Rattle.rh_order.specs.Words.{HoldsCell, MarkIsFor}
 use Rattle.rh_worker.specs.Worker.{IsWorker}
 use Rattle.rh_turns.specs.declared.hand.Hand.{Hand}
 use Rattle.rh_turns.specs.Hands.{view_of}

@@ -21,16 +21,16 @@ use Rattle.rh_rule.specs.Core.{Core}
 use Rattle.rh_rule.specs.Represents.{IsCell}
 use Rattle.rh_rule.specs.Rest.{AllRest}
 use Rattle.rh_rule.proofs.Telling.{tells}
-use Rattle.rh_steps.specs.Relies.{Relies, Serves, Shows}
-use Rattle.rh_steps.proofs.Relying.{workers_may_rely}
-use Rattle.rh_steps.specs.Own.{IsClear}
+use Rattle.rh_carrier.specs.Relies.{Relies, Serves, Shows}
+use Rattle.rh_carrier.proofs.Relying.{workers_may_rely}
+use Rattle.rh_carrier.specs.Own.{IsClear}
 use Rattle.rh_worker.specs.Worker.{IsWorker, Stays}
 use Rattle.rh_worker.specs.declared.stage.Stage.{Stage}
-use Rattle.rh_run.specs.Claimed.{claimed}
-use Rattle.rh_run.proofs.Saying.{logical_words, words_lead_inside}
-use Rattle.rh_run.proofs.Standing.{run_moment}
-use Rattle.rh_run.specs.Laws.{MomentSpec}
-use Rattle.rh_run.specs.History.{history}
+use Rattle.rh_order.specs.Claimed.{claimed}
+use Rattle.rh_order.proofs.Saying.{logical_words, words_lead_inside}
+use Rattle.rh_order.proofs.Standing.{run_moment}
+use Rattle.rh_order.specs.Laws.{MomentSpec}
+use Rattle.rh_order.specs.History.{history}
 use Rattle.rh_turns.specs.declared.hand.Hand.{Hand}
 use Rattle.rh_turns.specs.declared.hand.Share.{Share}
 use Rattle.rh_turns.specs.declared.hand.Share.TheVariants.{Piece, Claims}

@@ -7,7 +7,7 @@ use Rattle.rh_words.specs.Steps.{Step, StepsTo}
 use Rattle.rh_recorder.specs.Records.{Records}
 use Rattle.rh_recorder.specs.declared.recorder.Recorder.{Recorder}
 use Rattle.rh_recorder.specs.declared.recorder.Touched.{Touched}
-use Rattle.rh_steps.specs.Relies.{Relies, Serves, Shows}
+use Rattle.rh_carrier.specs.Relies.{Relies, Serves, Shows}
 use Rattle.rh_turns.specs.declared.turning.Turn.{Turn}
 use Rattle.rh_turns.specs.declared.turning.Turn.TheVariants.{Did, Finished, Spent, NoSuchWorker}
 use Rattle.rh_turns.specs.Hands.{ClaimsBy, Moment, StepsBy, TurnsBy, TurnsOn}

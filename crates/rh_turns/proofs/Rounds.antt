@@ -10,12 +10,12 @@ use Rattle.rh_words.specs.View.{View, new_view, round_view}
 use Rattle.rh_worker.specs.Worker.{IsBusy}
 use Rattle.rh_worker.specs.declared.stage.Stage.{Stage}
 use Rattle.rh_worker.specs.declared.stage.Stage.TheVariants as stage
-use Rattle.rh_run.specs.Claimed.{claimed}
-use Rattle.rh_run.specs.Laws.{AreAlike}
-use Rattle.rh_run.specs.Run.{Run, RunInvariant}
-use Rattle.rh_run.specs.Words.{IsWiped}
-use Rattle.rh_run.proofs.Alike.{runs_alike}
-use Rattle.rh_run.proofs.Turning.{run_rounds}
+use Rattle.rh_order.specs.Claimed.{claimed}
+use Rattle.rh_order.specs.Laws.{AreAlike}
+use Rattle.rh_order.specs.Run.{Run, RunInvariant}
+use Rattle.rh_order.specs.Words.{IsWiped}
+use Rattle.rh_order.proofs.Alike.{runs_alike}
+use Rattle.rh_order.proofs.Turning.{run_rounds}
 use Rattle.rh_turns.specs.declared.hand.Hand.{Hand}
 use Rattle.rh_turns.specs.declared.hand.Share.{Share}
 use Rattle.rh_turns.specs.declared.hand.Share.TheVariants.{Piece, Claims}

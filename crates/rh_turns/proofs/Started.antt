@@ -6,11 +6,11 @@ use Rattle.rh_tagword.specs.Word.{plain_number}
 use Rattle.rh_world.specs.World.{In}
 use Rattle.rh_words.specs.declared.shape.Shape.{Shape}
 use Rattle.rh_words.specs.View.{View, new_view}
-use Rattle.rh_run.specs.Claimed.{claimed}
-use Rattle.rh_run.specs.Laws.{AreAlike, started}
-use Rattle.rh_run.specs.Run.{Run, RunInvariant}
-use Rattle.rh_run.proofs.Alike.{runs_alike}
-use Rattle.rh_run.proofs.Turning.{run_starts}
+use Rattle.rh_order.specs.Claimed.{claimed}
+use Rattle.rh_order.specs.Laws.{AreAlike, started}
+use Rattle.rh_order.specs.Run.{Run, RunInvariant}
+use Rattle.rh_order.proofs.Alike.{runs_alike}
+use Rattle.rh_order.proofs.Turning.{run_starts}
 use Rattle.rh_turns.specs.declared.hand.Hand.{Hand}
 use Rattle.rh_turns.specs.declared.hand.Share.{Share}
 use Rattle.rh_turns.specs.declared.hand.Share.TheVariants.{Piece, Claims}

@@ -10,8 +10,8 @@ use Rattle.rh_ledger.specs.declared.tally.Kind.TheVariants.{Ask}
 use Rattle.rh_ledger.specs.Phase.{looked_up}
 use Rattle.rh_words.specs.declared.shape.Shape.{Shape}
 use Rattle.rh_acts.proofs.Told.{as_many_told}
-use Rattle.rh_run.specs.Claimed.{claimed}
-use Rattle.rh_run.proofs.Answering.{run_answers}
+use Rattle.rh_order.specs.Claimed.{claimed}
+use Rattle.rh_order.proofs.Answering.{run_answers}
 use Rattle.rh_turns.specs.declared.hand.Hand.{Hand}
 use Rattle.rh_turns.specs.declared.hand.Share.{Share}
 use Rattle.rh_turns.specs.declared.hand.Share.TheVariants.{Piece, Claims}

@@ -15,12 +15,12 @@ use Rattle.rh_words.specs.declared.shape.Shape.{Shape}
 use Rattle.rh_words.specs.declared.steps.StepKind.{StepKind}
 use Rattle.rh_words.specs.View.{View, new_view}
 use Rattle.rh_words.specs.Steps.{Allowed, Step, StepsTo}
-use Rattle.rh_run.specs.Advance.{Advances}
-use Rattle.rh_run.specs.Claimed.{claimed}
-use Rattle.rh_run.specs.Laws.{AreAlike, also_done_by, stepped}
-use Rattle.rh_run.specs.Run.{Run, RunInvariant, also_done, also_told}
-use Rattle.rh_run.proofs.Alike.{runs_alike}
-use Rattle.rh_run.proofs.Stepping.{run_claims, run_steps}
+use Rattle.rh_order.specs.Advance.{Advances}
+use Rattle.rh_order.specs.Claimed.{claimed}
+use Rattle.rh_order.specs.Laws.{AreAlike, also_done_by, stepped}
+use Rattle.rh_order.specs.Run.{Run, RunInvariant, also_done, also_told}
+use Rattle.rh_order.proofs.Alike.{runs_alike}
+use Rattle.rh_order.proofs.Stepping.{run_claims, run_steps}
 use Rattle.rh_turns.specs.declared.hand.Hand.{Hand}
 use Rattle.rh_turns.specs.declared.hand.Share.{Share}
 use Rattle.rh_turns.specs.declared.hand.Share.TheVariants.{Piece, Claims}

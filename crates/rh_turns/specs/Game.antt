@@ -6,7 +6,7 @@ use Rattle.rh_ledger.specs.declared.tally.Kind.{Kind}
 use Rattle.rh_words.specs.declared.shape.Shape.{Shape}
 use Rattle.rh_words.specs.View.{View, new_view}
 use Rattle.rh_acts.specs.Workers.{LeavesRoom, how_many}
-use Rattle.rh_run.specs.Run.{Run, RunInvariant}
+use Rattle.rh_order.specs.Run.{Run, RunInvariant}
 use Rattle.rh_turns.specs.declared.hand.Hand.{Hand}
 use Rattle.rh_turns.specs.declared.hand.Share.{Share}
 use Rattle.rh_turns.specs.declared.hand.Share.TheVariants.{Piece}

@@ -9,11 +9,11 @@ use Rattle.rh_words.specs.declared.steps.StepKind.TheVariants as kind
 use Rattle.rh_words.specs.View.{View, new_view}
 use Rattle.rh_words.specs.Steps.{Allowed, Step, StepsTo}
 use Rattle.rh_worker.specs.Makes.{MakesStep}
-use Rattle.rh_steps.specs.Relies.{Shows}
-use Rattle.rh_run.specs.Advance.{Advances}
+use Rattle.rh_carrier.specs.Relies.{Shows}
+use Rattle.rh_order.specs.Advance.{Advances}
 use Rattle.rh_worker.specs.Worker.{GivesUp, HasNoRoom, IsWorker}
 use Rattle.rh_worker.specs.declared.stage.Stage.TheVariants as stage
-use Rattle.rh_run.specs.Claimed.{claimed, FoundEnd}
+use Rattle.rh_order.specs.Claimed.{claimed, FoundEnd}
 use Rattle.rh_turns.specs.declared.hand.Hand.{Hand}
 use Rattle.rh_turns.specs.declared.hand.Share.{Share}
 use Rattle.rh_turns.specs.declared.hand.Share.TheVariants.{Piece, Claims}

@@ -14,11 +14,11 @@ use Rattle.rh_rule.specs.Rest.{AllRest}
 use Rattle.rh_rule.specs.Wipes.{row_total}
 use Rattle.rh_acts.specs.Workers.{LeavesRoom, how_many, sum_of_all}
 use Rattle.rh_ledger.specs.Tally.{tally_by}
-use Rattle.rh_steps.specs.Relies.{Relies, Serves, Shows}
+use Rattle.rh_carrier.specs.Relies.{Relies, Serves, Shows}
 use Rattle.rh_worker.specs.Worker.{IsBusy, IsWorker}
-use Rattle.rh_run.specs.History.{history}
-use Rattle.rh_run.specs.Laws.{MomentSpec}
-use Rattle.rh_run.specs.Words.{AreNow, IsWiped, cells_held}
+use Rattle.rh_order.specs.History.{history}
+use Rattle.rh_order.specs.Laws.{MomentSpec}
+use Rattle.rh_order.specs.Words.{AreNow, IsWiped, cells_held}
 use Rattle.rh_turns.specs.declared.hand.Hand.{Hand}
 use Rattle.rh_turns.specs.declared.hand.Share.TheVariants.{Claims}
 use Rattle.rh_turns.specs.declared.turning.Turn.{Turn}

@@ -4,9 +4,9 @@ use Rattle.rh_world.specs.World.{Ref}
 use Rattle.rh_words.specs.declared.shape.Shape.{Shape}
 use Rattle.rh_words.specs.View.{View, new_view}
 use Rattle.rh_words.specs.Words.{IsPlain, cell_in}
-use Rattle.rh_run.specs.History.{value_of}
-use Rattle.rh_run.specs.Known.{NotesOld}
-use Rattle.rh_run.specs.Words.{HoldsCell, IsLogicalWord, LeadsInside}
+use Rattle.rh_order.specs.History.{value_of}
+use Rattle.rh_order.specs.Known.{NotesOld}
+use Rattle.rh_order.specs.Words.{HoldsCell, IsLogicalWord, LeadsInside}
 use Rattle.rh_worker.specs.Worker.{IsWorker}
 use Rattle.rh_turns.specs.declared.hand.Hand.{Hand}
 use Rattle.rh_turns.specs.Hands.{view_of}

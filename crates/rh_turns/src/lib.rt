@@ -2,7 +2,7 @@
 //! interleaving.
 //!
 //! A worker has a piece of a list of keys, or claims its positions; a game is a table with such
-//! workers. `rh_stepper` stands on it.
+//! workers. `rh_interleaving` stands on it.
 //!
 //! Proved:
 //!

@@ -5,7 +5,7 @@ ghost use Rattle.rh_words.specs.Parts.{cell_count, word_count};
 ghost use Rattle.rh_words.specs.Words.{ref_of};
 ghost use Rattle.rh_words.specs.Steps.{IsDesc};
 ghost use Rattle.rh_rule.specs.Represents.{word_at};
-ghost use Rattle.rh_run.specs.Words.{DescLeads, IsLogicalWord, MarkIsFor, MarkStandsFor, WordStandsFor, entry_for};
+ghost use Rattle.rh_order.specs.Words.{DescLeads, IsLogicalWord, MarkIsFor, MarkStandsFor, WordStandsFor, entry_for};
 ghost use Rattle.rh_turns.specs.Readable.{AreWorkers, HasHolder, HasNoted, IsReadable, IsValueOf, views_of};
 ghost use Rattle.rh_words.specs.declared.shape.Part.TheVariants as part;
 ghost use Rattle.rh_world.specs.World.Cell.{desc as is_desc};
@@ -55,7 +55,7 @@ fn marked_word(hands: &[Hand], mark: Ref) -> u64
         MarkIsFor (views_of hands.now mark.worker).side (ref_of mark) d c →
         MarkStandsFor (views_of hands.now) c (ref_of mark) result }
 {
-    match hands[mark.worker].worker.held() {
+    match hands[mark.worker].worker.owed_cell() {
         Some(owed) => owed.old,
         None => unreachable!(),
     }
@@ -113,7 +113,7 @@ fn word_held(hands: &[Hand], desc: Ref, cell: usize) -> u64
     ensures { HasNoted (length hands.now) (views_of hands.now) (ref_of desc) cell result }
 {
     for hand in hands {
-        if let Some(owed) = hand.worker.held() {
+        if let Some(owed) = hand.worker.owed_cell() {
             if owed.piece.desc == desc && owed.piece.cell == cell {
                 return owed.old;
             }

@@ -2,7 +2,7 @@
 //! worker on its words.
 //!
 //! A step is a value (`Request`): which word it touches, and what becomes of it. `rh_rule` says
-//! that each allowed one keeps the rule, and `rh_steps` who carries it out.
+//! that each allowed one keeps the rule, and `rh_carrier` who carries it out.
 //!
 //! `rh_descriptor` hands it on to programs of others, with a call for each kind of step.
 //!

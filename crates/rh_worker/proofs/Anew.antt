@@ -8,10 +8,10 @@ use Rattle.rh_world.specs.Sides.{KeptRead}
 use Rattle.rh_world.proofs.Updated.{same_nat}
 use Rattle.rh_acts.specs.Done.{Kept, kept}
 use Rattle.rh_acts.proofs.ActLemmas.{contains_head}
-use Rattle.rh_run.specs.Advance.{GoesOn}
+use Rattle.rh_order.specs.Advance.{GoesOn}
 use Rattle.rh_layout.specs.Round.{cell_ahead}
 use Rattle.rh_layout.specs.Order.{home_of}
-use Rattle.rh_run.specs.History.{kept_of, value_of}
+use Rattle.rh_order.specs.History.{kept_of, value_of}
 use Rattle.rh_words.specs.declared.shape.Shape.{Shape}
 use Rattle.rh_words.specs.Parts.{cell_count}
 use Rattle.rh_words.specs.View.{View}

@@ -8,20 +8,20 @@ use Rattle.rh_world.specs.Facts.Fact.{decided}
 use Rattle.rh_world.specs.Acts.{is_success}
 use Rattle.rh_ledger.specs.declared.tally.Kind.{Kind}
 use Rattle.rh_acts.specs.Done.{Does}
-use Rattle.rh_run.specs.History.{act_of}
-use Rattle.rh_run.specs.OwnActs.{Closes}
-use Rattle.rh_run.proofs.Learning.{steps_grow}
+use Rattle.rh_order.specs.History.{act_of}
+use Rattle.rh_order.specs.OwnActs.{Closes}
+use Rattle.rh_order.proofs.Learning.{steps_grow}
 use Rattle.rh_words.specs.declared.steps.StepKind.{StepKind}
-use Rattle.rh_helping.specs.Next.Outcome.{Closed}
+use Rattle.rh_helping.specs.Next.StageOutcome.{Closed}
 use Rattle.rh_helping.specs.declared.machine.Ended.{Ended}
 use Rattle.rh_helping.specs.declared.machine.Ended.TheVariants as ended
-use Rattle.rh_steps.specs.Own.{IsNewestOwn, KnowsOwn}
+use Rattle.rh_carrier.specs.Own.{IsNewestOwn, KnowsOwn}
 use Rattle.rh_helping.specs.Made.{HasMadeStep}
 use Rattle.rh_helping.specs.Work.{HasEnded, Leads}
 use Rattle.rh_worker.specs.Worker.{GivesUp}
 use Rattle.rh_rule.specs.Sound.{Sound}
 use Rattle.rh_world.specs.World.Control.{failed, succeeded, withdrawn}
-use Rattle.rh_run.specs.Advance.{Fails, Succeeds}
+use Rattle.rh_order.specs.Advance.{Fails, Succeeds}
 use Rattle.rh_layout.specs.declared.entry.Entry.{Entry}
 use Rattle.rh_words.specs.declared.shape.Shape.{Shape}
 use Rattle.rh_words.specs.View.{OwnDesc, View, own_ref}

@@ -7,14 +7,14 @@ use Rattle.rh_tagword.specs.Word.{IsValue, plain_number}
 use Rattle.rh_acts.specs.Done.{Kept, kept}
 use Rattle.rh_acts.proofs.ActLemmas.{contains_head}
 use Rattle.rh_world.specs.Sides.{KeptRead, claim_side}
-use Rattle.rh_run.specs.History.{kept_of, value_of}
-use Rattle.rh_run.proofs.Learning.{reads_stay}
+use Rattle.rh_order.specs.History.{kept_of, value_of}
+use Rattle.rh_order.proofs.Learning.{reads_stay}
 use Rattle.rh_words.specs.declared.shape.Shape.{Shape}
 use Rattle.rh_words.specs.declared.steps.StepKind.{StepKind}
 use Rattle.rh_words.specs.Parts.{cell_count}
 use Rattle.rh_words.specs.View.{OwnDesc, View}
 use Rattle.rh_words.specs.Steps.{Step, with_side}
-use Rattle.rh_steps.specs.Own.{IsClear}
+use Rattle.rh_carrier.specs.Own.{IsClear}
 use Rattle.rh_helping.specs.Made.{HasStepped}
 use Rattle.rh_helping.specs.Settling.{Grows}
 use Rattle.rh_helping.proofs.Growing.{clear_grows}

@@ -5,10 +5,10 @@ use Rattle.rh_ledger.specs.declared.tally.Kind.{Kind}
 use Rattle.rh_words.specs.declared.shape.Shape.{Shape}
 use Rattle.rh_words.specs.View.{View}
 use Rattle.rh_rule.specs.Sound.{Sound}
-use Rattle.rh_run.specs.History.{act_of, own_acts_of}
-use Rattle.rh_run.specs.OwnActs.{StepFinishes}
-use Rattle.rh_run.proofs.Finishing.{steps_finish}
-use Rattle.rh_run.specs.Advance.{Advances, GoesOn}
+use Rattle.rh_order.specs.History.{act_of, own_acts_of}
+use Rattle.rh_order.specs.OwnActs.{StepFinishes}
+use Rattle.rh_order.proofs.Finishing.{steps_finish}
+use Rattle.rh_order.specs.Advance.{Advances, GoesOn}
 use Rattle.rh_worker.specs.Laws.{AfterStep, KeyIsDone, KeysAreDone}
 
 module _ (z : Shape) (v next : View) (kind : Kind) (k : ℕ) (f : StepFinishes v next) where

@@ -8,12 +8,12 @@ use Rattle.rh_layout.specs.declared.entry.Entry.{Entry}
 use Rattle.rh_acts.specs.Act.{IsRising}
 use Rattle.rh_world.specs.World.{In}
 use Rattle.rh_world.specs.Facts.Fact.{known}
-use Rattle.rh_run.specs.History.{act_of}
+use Rattle.rh_order.specs.History.{act_of}
 use Rattle.rh_words.specs.declared.shape.Shape.{Shape}
 use Rattle.rh_words.specs.View.{OwnDesc, View}
 use Rattle.rh_words.specs.Words.{IsPlain}
 use Rattle.rh_words.specs.Steps.{AreEntries, entry_of}
-use Rattle.rh_steps.specs.Own.{KnowsOwn}
+use Rattle.rh_carrier.specs.Own.{KnowsOwn}
 use Rattle.rh_helping.specs.Opening.{MayOpen, OpensOn}
 use Rattle.rh_helping.specs.Next.{Work}
 use Rattle.rh_helping.specs.Next.{Work as work}

@@ -17,7 +17,7 @@ use Rattle.rh_acts.specs.Act.{entry}
 use Rattle.rh_acts.specs.KeyActs.{IsFrontAct, PutsIn, ShowsAbsent, TakesOut}
 use Rattle.rh_acts.specs.Done.{Does}
 use Rattle.rh_words.specs.Words.{IsPlain}
-use Rattle.rh_run.specs.History.{act_of, value_of}
+use Rattle.rh_order.specs.History.{act_of, value_of}
 use Rattle.rh_worker.specs.declared.deciding.Decision.{Decision}
 use Rattle.rh_worker.specs.declared.deciding.Decision.TheVariants.{Acts}
 use Rattle.rh_worker.specs.Deciding.{AreFit, AreValued, Decides, IsPlan, worded}

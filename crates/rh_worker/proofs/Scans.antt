@@ -8,7 +8,7 @@ use Rattle.rh_ledger.specs.declared.tally.Kind.TheVariants.{Insert, Remove, Ask}
 use Rattle.rh_world.proofs.Updated.{same_nat}
 use Rattle.rh_layout.specs.declared.entry.Entry.{Entry}
 use Rattle.rh_acts.specs.Done.{IsTold, Kept, kept}
-use Rattle.rh_run.specs.History.{kept_of}
+use Rattle.rh_order.specs.History.{kept_of}
 use Rattle.rh_words.specs.declared.shape.Shape.{Shape}
 use Rattle.rh_words.specs.Parts.{cell_count}
 use Rattle.rh_words.specs.View.{View}
@@ -16,7 +16,7 @@ use Rattle.rh_helping.specs.Next.{Looked, Looking}
 use Rattle.rh_helping.specs.Next.Looked.{On, Sees, Spent}
 use Rattle.rh_helping.specs.Next.{Looking as looking}
 use Rattle.rh_helping.specs.Looking.{IsLooking, LooksOn}
-use Rattle.rh_run.specs.Advance.{GoesOn}
+use Rattle.rh_order.specs.Advance.{GoesOn}
 use Rattle.rh_worker.specs.declared.scan_buffer.ScanBuffer.{ScanBuffer}
 use Rattle.rh_worker.specs.declared.deciding.Decision.TheVariants.{Done}
 use Rattle.rh_worker.specs.Deciding.{Decides}

@@ -13,7 +13,7 @@ use Rattle.rh_acts.specs.declared.answer.Removal.{Removal}
 use Rattle.rh_acts.specs.declared.answer.Removal.TheVariants as removal
 use Rattle.rh_acts.specs.Decision.{Inserts, Removes}
 use Rattle.rh_words.specs.Words.{IsPlain}
-use Rattle.rh_run.specs.History.{act_of}
+use Rattle.rh_order.specs.History.{act_of}
 use Rattle.rh_worker.specs.declared.stage.Plan.{Plan}
 use Rattle.rh_worker.specs.declared.deciding.Decision.{Decision}
 use Rattle.rh_worker.specs.declared.deciding.Decision.TheVariants.{Done, More, Acts}

@@ -6,9 +6,9 @@ use Rattle.rh_acts.specs.Done.{KeyDone}
 use Rattle.rh_words.specs.declared.shape.Shape.{Shape}
 use Rattle.rh_words.specs.View.{View}
 use Rattle.rh_rule.specs.Sound.{Sound}
-use Rattle.rh_run.specs.History.{kept_of, own_acts_of}
-use Rattle.rh_run.specs.OwnActs.{Orderly}
-use Rattle.rh_run.specs.Advance.{Advances}
+use Rattle.rh_order.specs.History.{kept_of, own_acts_of}
+use Rattle.rh_order.specs.OwnActs.{Orderly}
+use Rattle.rh_order.specs.Advance.{Advances}
 use Rattle.rh_worker.specs.Makes.{Moves}
 
 -- The key is done by the next own acts, and what is told of it follows from them, or from what was read.

@@ -6,9 +6,9 @@ use Rattle.rh_words.specs.declared.shape.Shape.{Shape}
 use Rattle.rh_words.specs.declared.steps.StepKind.{StepKind}
 use Rattle.rh_words.specs.View.{View}
 use Rattle.rh_words.specs.Steps.{Allowed, Step, noted}
-use Rattle.rh_steps.specs.Relies.{Trusts}
+use Rattle.rh_carrier.specs.Relies.{Trusts}
 use Rattle.rh_helping.specs.Made.{kind_of}
-use Rattle.rh_run.specs.History.{kept_of}
+use Rattle.rh_order.specs.History.{kept_of}
 
 -- One allowed step of this kind was made. It claimed no key, and what was kept as read is still kept.
 pub record MakesStep {T : Type 0} (shows : Shape → T → View → Type 0) (made : Shape → Step → T → View → ℕ → T → View → Type 0) (z : Shape) (k : StepKind) (t : T) (v : View) (then : T) (next : View) : Type 0 where

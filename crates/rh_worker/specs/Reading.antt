@@ -7,8 +7,8 @@ use Rattle.rh_acts.specs.Done.{Kept, kept}
 use Rattle.rh_words.specs.declared.shape.Shape.{Shape}
 use Rattle.rh_words.specs.Parts.{cell_count}
 use Rattle.rh_words.specs.View.{View}
-use Rattle.rh_run.specs.History.{kept_of}
-use Rattle.rh_run.specs.Advance.{GoesOn, Succeeds}
+use Rattle.rh_order.specs.History.{kept_of}
+use Rattle.rh_order.specs.Advance.{GoesOn, Succeeds}
 use Rattle.rh_worker.specs.Deciding.{IsDoneBy}
 use Rattle.rh_worker.specs.declared.stage.Stage.{Stage}
 use Rattle.rh_worker.specs.declared.stage.Stage.TheVariants as stage

@@ -15,14 +15,14 @@ use Rattle.rh_words.specs.declared.steps.StepKind.{StepKind}
 use Rattle.rh_words.specs.declared.steps.StepKind.TheVariants as kind
 use Rattle.rh_words.specs.Parts.{cell_count}
 use Rattle.rh_words.specs.View.{OwnDesc, View, own_ref}
-use Rattle.rh_steps.specs.Own.{IsClear, KnowsOwn, Owns, OwesNothing}
+use Rattle.rh_carrier.specs.Own.{IsClear, KnowsOwn, Owns, OwesNothing}
 use Rattle.rh_helping.specs.Looking.{IsLooking, kind_of_looking}
 use Rattle.rh_helping.specs.Opening.{IsOpening, kind_of_opening}
 use Rattle.rh_helping.specs.Work.{Stands, kind_of_work}
 use Rattle.rh_helping.specs.Machine.{looking_of, work_of}
 use Rattle.rh_helping.specs.declared.machine.Machine.{Machine}
-use Rattle.rh_run.specs.History.{kept_of}
-use Rattle.rh_run.specs.OwnActs.{Closes}
+use Rattle.rh_order.specs.History.{kept_of}
+use Rattle.rh_order.specs.OwnActs.{Closes}
 use Rattle.rh_worker.specs.Deciding.{IsPlan}
 use Rattle.rh_worker.specs.ScanBuffer.{HasRoom}
 use Rattle.rh_worker.specs.declared.stage.Plan.{Plan}

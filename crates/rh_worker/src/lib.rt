@@ -17,7 +17,7 @@
 //!   what was read since it was begun, of the cells from its home on, in their order.
 //! - The answer of a key is what the act or the look-up says. A worker is spent only where no
 //!   number is left for a mark, or none for a descriptor. A step takes no memory.
-//! - `Worker::claim`: one Claim. `begin`, `begin_round`, `is_idle`, `is_spent`, `held`,
+//! - `Worker::claim`: one Claim. `begin`, `begin_round`, `is_idle`, `is_spent`, `owed_cell`,
 //!   `Worker::new`: as their comments say.
 #![tactic(auto)]
 

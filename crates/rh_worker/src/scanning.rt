@@ -1,15 +1,15 @@
 //! Scanning the cells from a key's home on, one Read after the other.
 
 ghost use Rattle.std.specs.Prelude.{◌≡◌, ◌≤◌, IfSome, List, None, length, take};
-ghost use Rattle.rh_run.specs.Advance.{Advances};
+ghost use Rattle.rh_order.specs.Advance.{Advances};
 ghost use Rattle.rh_worker.specs.Makes.{MakesStep};
-ghost use Rattle.rh_steps.specs.Relies.{Relies};
+ghost use Rattle.rh_carrier.specs.Relies.{Relies};
 ghost use Rattle.rh_worker.specs.Worker.{IsAtStage, IsWorker, KeepsKey};
 ghost use Rattle.rh_worker.specs.declared.stage.Stage.TheVariants as stage;
 ghost use Rattle.rh_acts.specs.Done.{IsTold, Kept};
 ghost use Rattle.rh_worker.specs.Reading.{HasScanned, IsToldAnew, ReadsAnew, TellsAnew, seen_at};
-ghost use Rattle.rh_run.specs.History.{kept_of};
-ghost use Rattle.rh_steps.specs.Own.{IsClear};
+ghost use Rattle.rh_order.specs.History.{kept_of};
+ghost use Rattle.rh_carrier.specs.Own.{IsClear};
 ghost use Rattle.rh_helping.specs.Looking.{kind_of_looking};
 ghost use Rattle.rh_helping.specs.Machine.{looking_of};
 ghost use Rattle.rh_worker.specs.Deciding.{IsPlan};
@@ -22,10 +22,10 @@ ghost use Rattle.rh_rule.specs.Sound.{Sound};
 use crate::deciding::Decision;
 use crate::stage::{Plan, Stage};
 use crate::worker::Worker;
+use rh_carrier::Steps;
 use rh_helping::{Opening, Sight, Watch};
 use rh_layout::home;
 use rh_probe::cell_after;
-use rh_steps::Steps;
 use rh_tagword::plain_value;
 use rh_words::Shape;
 
@@ -108,7 +108,7 @@ fn decide(worker: &mut Worker, shape: &Shape, count: usize) -> Option<bool>
             Some(answer)
         }
         Decision::Acts(plan) => {
-            worker.stage = planned(worker, shape, plan);
+            worker.stage = stage_for(worker, shape, plan);
             None
         }
         Decision::More => {
@@ -120,7 +120,7 @@ fn decide(worker: &mut Worker, shape: &Shape, count: usize) -> Option<bool>
 }
 
 /// The first step of an own descriptor, if there is a number left for it and a mark for its work.
-fn planned(worker: &Worker, shape: &Shape, plan: Plan) -> Stage
+fn stage_for(worker: &Worker, shape: &Shape, plan: Plan) -> Stage
     requires sound { Sound shape.now worker.now.side.known.view }
     requires clear { IsClear worker.now.side.known.view }
     requires plan { IsPlan worker.now.kind shape.now.bits worker.now.key

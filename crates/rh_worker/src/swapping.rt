@@ -1,9 +1,9 @@
 //! An own descriptor, from its opening to its end.
 
 ghost use Rattle.std.specs.Prelude.{◌≡◌, List, None};
-ghost use Rattle.rh_run.specs.Advance.{Advances};
+ghost use Rattle.rh_order.specs.Advance.{Advances};
 ghost use Rattle.rh_worker.specs.Makes.{MakesStep};
-ghost use Rattle.rh_steps.specs.Relies.{Relies};
+ghost use Rattle.rh_carrier.specs.Relies.{Relies};
 ghost use Rattle.rh_worker.specs.Worker.{EndsAt, GivesUp, IsAtStage, IsWorker, KeepsKey};
 ghost use Rattle.rh_worker.specs.Reading.{HasScanned, ReadsAnew};
 ghost use Rattle.rh_worker.specs.declared.stage.Stage.TheVariants as stage;
@@ -14,8 +14,8 @@ ghost use Rattle.rh_helping.specs.Machine.{work_of};
 
 use crate::stage::{Plan, Stage};
 use crate::worker::Worker;
+use rh_carrier::Steps;
 use rh_helping::{Ended, OpenDesc, Opening, Progress};
-use rh_steps::Steps;
 use rh_words::{Ref, Shape};
 
 /// Opens the own descriptor step by step.

@@ -6,22 +6,22 @@ ghost use Rattle.rh_world.specs.World.{In};
 ghost use Rattle.rh_words.specs.declared.shape.Shape.{Shape};
 ghost use Rattle.rh_words.specs.View.{new_view, round_view};
 ghost use Rattle.rh_words.specs.Steps.Step.{claims};
-ghost use Rattle.rh_run.specs.Advance.{Advances};
+ghost use Rattle.rh_order.specs.Advance.{Advances};
 ghost use Rattle.rh_worker.specs.Makes.{MakesStep};
-ghost use Rattle.rh_steps.specs.Relies.{Relies, Went};
+ghost use Rattle.rh_carrier.specs.Relies.{Relies, Went};
 ghost use Rattle.rh_worker.specs.Worker.{EndsAt, GivesUp, IsBusy, IsWorker, KeepsKey};
 ghost use Rattle.rh_worker.specs.Reading.{ReadsAnew, TellsAnew};
 ghost use Rattle.rh_acts.specs.Done.{Kept};
-ghost use Rattle.rh_run.specs.History.{kept_of};
+ghost use Rattle.rh_order.specs.History.{kept_of};
 ghost use Rattle.rh_helping.specs.Held.{IsHeld};
 ghost use Rattle.rh_worker.specs.declared.stage.Stage.TheVariants as stage;
 
 use crate::scan_buffer::ScanBuffer;
 use crate::stage::Stage;
 use crate::{scanning, swapping};
+use rh_carrier::Steps;
 use rh_helping::{Machine, Owed};
 use rh_ledger::Kind;
-use rh_steps::Steps;
 use rh_words::{Ref, Request, Shape, Side, StepKind};
 use std::alloc::{AllocError, Global};
 
@@ -91,12 +91,12 @@ impl Worker {
 
     /// The cell where an own mark stands that is not settled yet, or where its descriptor may stand
     /// by the worker's doing.
-    pub fn held(&self) -> Option<Owed>
+    pub fn owed_cell(&self) -> Option<Owed>
         ensures { (z : Shape) → IsWorker z self.now → IsHeld self.now.side.known.view result }
     {
         match &self.stage {
             Stage::Scan { watch, .. } => self.machine.held_as(*watch),
-            Stage::Swap { .. } => self.machine.held(),
+            Stage::Swap { .. } => self.machine.owed_cell(),
             Stage::Idle | Stage::Spent | Stage::Open { .. } => None,
         }
     }

@@ -10,7 +10,7 @@ use rh_cli::Status;
 use rh_combine::How;
 use rh_forks::{Team, Workers};
 use rh_key_commands::line::Combination;
-use rh_keys_program::{Fault, Line, bytes_of, times_named, told, workers_of};
+use rh_keys_program::{Fault, Line, bytes_of, times_named, with_path, workers_of};
 use rh_list_commands::{Job, Output, combine_files};
 use rh_shelf::{CountedShelf, FileShelf};
 use std::fs::Files;
@@ -65,7 +65,7 @@ pub fn combine<W: Write + Drop>(
     line.clear();
     match outcome {
         Ok(()) => Ok(Status::Done),
-        Err(fault) => Err(told(rt, asked.files, fault)),
+        Err(fault) => Err(with_path(rt, asked.files, fault)),
     }
 }
 

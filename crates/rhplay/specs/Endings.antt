@@ -3,10 +3,10 @@ use Rattle.std.specs.Prelude.{ℕ, Option, Some, None, Result, Ok, Err, if◌the
 use Rattle.rh_cli.specs.Endings.{ending_by_program as ending_by_program}
 use Rattle.rh_cli.specs.declared.status.Status.{Status}
 use Rattle.rh_cli.specs.declared.status.Status.TheVariants.{Refused, Memory, Write}
-use Rattle.rh_play.specs.declared.fault.PlayTextKind.{PlayTextKind}
-use Rattle.rh_play.specs.declared.fault.PlayTextKind.TheVariants as texts
-use Rattle.rh_stepper.specs.declared.fault.PlayFault.{PlayFault}
-use Rattle.rh_stepper.specs.declared.fault.PlayFault.TheVariants as starts
+use Rattle.rh_play_text.specs.declared.fault.PlayTextKind.{PlayTextKind}
+use Rattle.rh_play_text.specs.declared.fault.PlayTextKind.TheVariants as texts
+use Rattle.rh_interleaving.specs.declared.fault.PlayFault.{PlayFault}
+use Rattle.rh_interleaving.specs.declared.fault.PlayFault.TheVariants as starts
 use Rattle.rh_play_run.specs.declared.fault.PlayRunFault.{PlayRunFault}
 use Rattle.rh_play_run.specs.declared.fault.PlayRunFault.TheVariants as plays
 use Rattle.rh_play_run.specs.declared.draw_fault.DrawFault.TheVariants as draw

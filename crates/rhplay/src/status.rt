@@ -5,9 +5,9 @@ ghost use Rattle.rh_cli.specs.Endings.{told_as};
 ghost use Rattle.rhplay.specs.Endings.{ending_by, ending_by_play};
 
 use rh_cli::{ProgramFault, Status};
-use rh_play::PlayTextKind;
+use rh_interleaving::PlayFault;
 use rh_play_run::{DrawFault, PlayRunFault, TellFault};
-use rh_stepper::PlayFault;
+use rh_play_text::PlayTextKind;
 use thiserror::Error;
 
 /// Why a run ends early, in the words that the user is told.

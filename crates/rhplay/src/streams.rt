@@ -5,7 +5,7 @@ ghost use Rattle.std.specs.Io.Buffered.{writer_contents};
 ghost use Rattle.rh_bytes.specs.Counting.{inner_of};
 ghost use Rattle.rh_cli.specs.Endings.{EndsBy, EndsWith};
 ghost use Rattle.rh_draw.specs.declared.limits.TheConstants.{MAX_STEPS};
-ghost use Rattle.rh_play_run.specs.Drawing.{Draws};
+ghost use Rattle.rh_play_run.specs.Drawing.{DrawsPlay};
 ghost use Rattle.rh_play_run.specs.Run.{TellsPlay};
 ghost use Rattle.rhplay.specs.Endings.{steps_asked};
 
@@ -89,7 +89,7 @@ fn draw_out<R: Read, W: Write + Drop>(
 ) -> (Result<Status, Fault>, BufWriter<W>)
     requires { IfSome steps (λ n. n ≤ MAX_STEPS) }
     ensures { EndsWith {X = ⊤} W.contents (λ f told. told ≡ Fault.Draw f) Fault.Program
-        (λ out r. Draws from steps (R.remaining (inner_of reader.old))
+        (λ out r. DrawsPlay from steps (R.remaining (inner_of reader.old))
         (writer_contents W.contents writer) out r)
         result }
 {

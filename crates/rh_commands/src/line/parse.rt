@@ -14,7 +14,7 @@ use crate::limits::MAX_WORKERS;
 use clap::{Arg, ArgAction, ArgMatches, Command, value_parser};
 use rh_arguments::LineFault;
 use rh_arguments::parsing::{
-    described, number, parsed, program_command, text, text_arg, with_subcommand,
+    describe, find_arguments, number, program_command, text, text_arg, with_subcommand,
 };
 use std::alloc::{AllocError, Global};
 
@@ -28,12 +28,12 @@ pub fn line(alloc: Global, words: &[String]) -> Result<Line, LineFault>
     ensures taken { IfOk result (λ l. fault_of rhset_app (texts_of words.now) ≡ []) }
     ensures refused { IfErr result (λ f. IsOneOf (fault_of rhset_app (texts_of words.now)) f) }
 {
-    let matches = parsed(command(alloc)?, words)?;
-    let line = asked(alloc, &matches)?;
+    let matches = find_arguments(command(alloc)?, words)?;
+    let line = line_in(alloc, &matches)?;
     Ok(line)
 }
 
-fn asked(alloc: Global, matches: &ArgMatches<'_>) -> Result<Line, AllocError>
+fn line_in(alloc: Global, matches: &ArgMatches<'_>) -> Result<Line, AllocError>
     requires { Finds IsCommand (subcommand_rows_of matches.now) }
     ensures { IfOk result (λ l. Asks (subcommand_rows_of matches.now) l) }
 {
@@ -80,7 +80,7 @@ fn command<'a>(alloc: Global) -> Result<Command<'a>, AllocError>
 fn dump_command<'a>(alloc: Global) -> Command<'a>
     ensures { app_of result ≡ dump_app }
 {
-    described(
+    describe(
         alloc,
         "dump",
         help::DUMP,
@@ -92,7 +92,7 @@ fn dump_command<'a>(alloc: Global) -> Command<'a>
 fn run_command<'a>(alloc: Global) -> Result<Command<'a>, AllocError>
     ensures { IfOk result (λ c. app_of c ≡ run_app) }
 {
-    described(alloc, "run", help::RUN, help::RUN_AT_LENGTH, help::SCRIPTS)
+    describe(alloc, "run", help::RUN, help::RUN_AT_LENGTH, help::SCRIPTS)
         .arg(workers_arg(alloc))?
         .arg(text_arg(alloc, "script", "SCRIPT", help::SCRIPT))
 }
@@ -101,7 +101,7 @@ fn check_command<'a>(alloc: Global) -> Result<Command<'a>, AllocError>
     ensures { IfOk result (λ c. app_of c ≡ check_app) }
 {
     let snapshot = text_arg(alloc, "snapshot", "SNAPSHOT", help::SNAPSHOT);
-    described(
+    describe(
         alloc,
         "check",
         help::CHECK,

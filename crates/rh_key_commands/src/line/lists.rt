@@ -11,7 +11,7 @@ use super::flags::{flag_arg, is_given};
 use super::help::{self, Texts};
 use crate::limits::MAX_WORKERS;
 use clap::{Arg, ArgAction, ArgMatches, Command, value_parser};
-use rh_arguments::parsing::{described, number, texts};
+use rh_arguments::parsing::{describe, number, texts};
 use std::alloc::{AllocError, Global};
 
 pub(super) fn lists_asked(
@@ -42,7 +42,7 @@ pub(super) fn lists_command<'a>(
 ) -> Result<Command<'a>, AllocError>
     ensures { IfOk result (λ c. app_of c ≡ lists_app name.now) }
 {
-    described(alloc, name, texts.about, texts.at_length, help::LISTS)
+    describe(alloc, name, texts.about, texts.at_length, help::LISTS)
         .arg(workers_arg(alloc))?
         .arg(flag_arg(alloc, "count", help::COUNT))?
         .arg(flag_arg(alloc, "packed", help::PACKED))?

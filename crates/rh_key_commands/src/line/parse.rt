@@ -17,7 +17,7 @@ use crate::limits::MAX_PARTS;
 use clap::{Arg, ArgAction, ArgMatches, Command, value_parser};
 use rh_arguments::LineFault;
 use rh_arguments::parsing::{
-    described, number, parsed, program_command, text, text_arg, texts, with_subcommand,
+    describe, find_arguments, number, program_command, text, text_arg, texts, with_subcommand,
 };
 use std::alloc::{AllocError, Global};
 
@@ -31,12 +31,12 @@ pub fn line(alloc: Global, words: &[String]) -> Result<Line, LineFault>
     ensures taken { IfOk result (λ l. fault_of rhkeys_app (texts_of words.now) ≡ []) }
     ensures refused { IfErr result (λ f. IsOneOf (fault_of rhkeys_app (texts_of words.now)) f) }
 {
-    let matches = parsed(command(alloc)?, words)?;
-    let line = asked(alloc, &matches)?;
+    let matches = find_arguments(command(alloc)?, words)?;
+    let line = line_in(alloc, &matches)?;
     Ok(line)
 }
 
-fn asked(alloc: Global, matches: &ArgMatches<'_>) -> Result<Line, AllocError>
+fn line_in(alloc: Global, matches: &ArgMatches<'_>) -> Result<Line, AllocError>
     requires { Finds IsKeysCommand (subcommand_rows_of matches.now) }
     ensures { IfOk result (λ l. AsksKeys (subcommand_rows_of matches.now) l) }
 {
@@ -113,7 +113,7 @@ fn lists_added<'a>(
 fn pack_command<'a>(alloc: Global) -> Command<'a>
     ensures { app_of result ≡ pack_app }
 {
-    described(
+    describe(
         alloc,
         "pack",
         help::PACK,
@@ -125,7 +125,7 @@ fn pack_command<'a>(alloc: Global) -> Command<'a>
 fn list_command<'a>(alloc: Global) -> Result<Command<'a>, AllocError>
     ensures { IfOk result (λ c. app_of c ≡ list_app) }
 {
-    described(
+    describe(
         alloc,
         "list",
         help::LIST,
@@ -139,7 +139,7 @@ fn list_command<'a>(alloc: Global) -> Result<Command<'a>, AllocError>
 fn split_command<'a>(alloc: Global) -> Result<Command<'a>, AllocError>
     ensures { IfOk result (λ c. app_of c ≡ split_app) }
 {
-    described(
+    describe(
         alloc,
         "split",
         help::SPLIT,

@@ -13,5 +13,5 @@ returns c =
     ap app_of_fields named.0
     ∙ ap app_of_fields c.subcommand_required.ensures
     ∙ ap (λ fields. with_a_command_required (app_of_fields fields)) c.version.ensures
-    ∙ ap (on_top (λ s. record s { has_version = true; subcommand_required = true })) c.described.ensures)
+    ∙ ap (on_top (λ s. record s { has_version = true; subcommand_required = true })) c.describe.ensures)
     c.bin_name.ensures

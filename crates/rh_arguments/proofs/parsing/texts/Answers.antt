@@ -8,7 +8,7 @@ use Rattle.rh_arguments.proofs.parsing.texts.Goals as goal
 pub returns-in-Some : goal.returns-in-Some
 returns-in-Some c =
     let all = c.in-Some.ensures ∙ raw_values-rows (found_of c.args.given.now) c.args.id.now in
-    IfOk-weaker c.copied.result _ _ (λ copies same. same ∙ ap (λ o. unwrap_or o []) all) c.copied.ensures
+    IfOk-weaker c.copy_texts.result _ _ (λ copies same. same ∙ ap (λ o. unwrap_or o []) all) c.copy_texts.ensures
 
 pub returns-in-None : goal.returns-in-None
 returns-in-None c =

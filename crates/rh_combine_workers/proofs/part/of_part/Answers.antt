@@ -16,8 +16,8 @@ all_gathered-requires c =
     ∥∥₁_elim c.args.cut.now.of_lists (Prim.hlevel props)
     (λ of. rw c.deref.ensures.value (parts_inside (λ l. l.items) c.args.cut.now.borders.values.items c.args.part c.args.cut.now.lists.items c.requires of.1.many))
 
-pub combined-requires : goal.combined-requires
-combined-requires c =
+pub combine-requires : goal.combine-requires
+combine-requires c =
     let borders = c.args.cut.now.borders.values.items in
     ∥∥₁_elim c.args.cut.now.of_lists (Prim.hlevel props)
     (λ of. are_keys (λ l. l.now) (slice_index borders c.args.part) (slice_index borders (c.args.part + 1)) c.deref-3.result.now (all_keys_below borders c.args.cut.now.borders.are (c.args.part + 1) c.requires)

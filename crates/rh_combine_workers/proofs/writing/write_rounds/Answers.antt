@@ -1,6 +1,6 @@
 use Rattle.std.proofs.Common.{◌≡◌, ◌≤◌, ◌∙◌, ap, arith, refl, rules}
 use Rattle.std.proofs.lemmas.Result.{err_from_is_err_and}
-use Rattle.rh_combine_workers.specs.Groups.{edge, parts_of}
+use Rattle.rh_combine_workers.specs.Groups.{group_edge, parts_of}
 use Rattle.rh_combine_workers.proofs.RoundLemmas.{count_more, none_counted, none_yet, round_fails, round_more}
 use Rattle.rh_combine_workers.proofs.writing.write_rounds.Goals as goal
 
@@ -20,7 +20,7 @@ returns-in_err-more g c =
     let p = err_from_is_err_and c.from_residual.result c.from_residual.ensures.1 in
     let wanted = c.args.wanted in
     let borders = c.args.cut.now.borders.values.items in
-    let next = edge c.loop-first.first c.args.team.now.workers.count c.group_size-size.result (parts_of c.args.cut.now) in
+    let next = group_edge c.loop-first.first c.args.team.now.workers.count c.group_size-size.result (parts_of c.args.cut.now) in
     let first : c.loop-first.first ≤ next = omega (arith, c.loop-first.invariant.inside, c.parts-parts.ensures) in
     record {
       text = λ lists are.
@@ -37,7 +37,7 @@ loop-first-preserved g c =
     let borders = c.args.cut.now.borders.values.items in
     let parts : c.parts-parts.result ≡ parts_of c.args.cut.now = omega (arith, c.parts-parts.ensures) in
     let next = c.edge-first.result in
-    let is : next ≡ edge c.loop-first.first c.args.team.now.workers.count c.group_size-size.result (parts_of c.args.cut.now) = c.edge-first.ensures ∙ ap (edge c.loop-first.first c.args.team.now.workers.count c.group_size-size.result) parts in
+    let is : next ≡ group_edge c.loop-first.first c.args.team.now.workers.count c.group_size-size.result (parts_of c.args.cut.now) = c.edge-first.ensures ∙ ap (group_edge c.loop-first.first c.args.team.now.workers.count c.group_size-size.result) parts in
     let first : c.loop-first.first ≤ next = omega (arith, is, c.loop-first.invariant.inside, parts) in
     record {
       inside = omega (arith, c.edge-first.ensures);

@@ -1,5 +1,5 @@
 use Rattle.std.proofs.Common.{List, [], drop}
-use Rattle.rh_draw.specs.Reading.{Shows}
+use Rattle.rh_draw.specs.Reading.{ShowsTags}
 use Rattle.rh_draw.proofs.Showing.{Goes}
 use Rattle.rh_draw.specs.Changing.{opening}
 use Rattle.rh_draw.specs.Notices.{AreTold}
@@ -9,6 +9,6 @@ use Rattle.rh_draw.proofs.history.draw_notices.Given as goal
 abbrev pub invariant-loop-record : goal.invariant-loop-record
 invariant-loop-record l =
     let right = l.view.right in
-    (done : List Tag) × Shows l.fn.canvas.out.items l.canvas.out.items [] done []
+    (done : List Tag) × ShowsTags l.fn.canvas.out.items l.canvas.out.items [] done []
     × Goes l.view.shape l.view.window right (AreTold l.view.shape l.view.window right (opening l.view.shape l.cells) l.records)
     l.sight.words.items (drop l.record-index l.records) done

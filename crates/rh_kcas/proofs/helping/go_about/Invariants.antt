@@ -1,11 +1,11 @@
 use Rattle.std.proofs.Common.{None}
 use Rattle.rh_words.specs.Steps.{IsKnown}
 use Rattle.rh_words.specs.Words.{ref_of}
-use Rattle.rh_steps.specs.Own.{KnowsOwn}
+use Rattle.rh_carrier.specs.Own.{KnowsOwn}
 use Rattle.rh_helping.specs.Work.{Stands}
 use Rattle.rh_helping.specs.Machine.{work_of}
 use Rattle.rh_shared.specs.Sits.{Sits, Stays}
-use Rattle.rh_steps.specs.Relies.{Trusts}
+use Rattle.rh_carrier.specs.Relies.{Trusts}
 use Rattle.rh_swaps.specs.Swaps.{HasNoted}
 use Rattle.rh_kcas.proofs.helping.go_about.Given as goal
 

@@ -1,10 +1,10 @@
 use Rattle.std.proofs.Common.{Some}
-use Rattle.rh_steps.specs.Own.{KnowsOwn}
+use Rattle.rh_carrier.specs.Own.{KnowsOwn}
 use Rattle.rh_helping.specs.Goal.{opened_by}
 use Rattle.rh_helping.specs.Work.{Stands}
 use Rattle.rh_helping.specs.Machine.{work_of}
 use Rattle.rh_shared.specs.Sits.{Sits, Stays}
-use Rattle.rh_steps.specs.Relies.{Trusts}
+use Rattle.rh_carrier.specs.Relies.{Trusts}
 use Rattle.rh_kcas_tests.proofs.halfway.comes_to_decide.Given as goal
 
 abbrev pub invariant-loop-made : goal.invariant-loop-made

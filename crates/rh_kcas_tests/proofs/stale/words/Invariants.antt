@@ -1,5 +1,5 @@
 use Rattle.rh_shared.specs.Seats.{IsHere, view_of}
-use Rattle.rh_steps.specs.Relies.{Knows}
+use Rattle.rh_carrier.specs.Relies.{Knows}
 use Rattle.rh_kcas_tests.proofs.stale.words.Given as goal
 
 abbrev pub invariant-loop-cell : goal.invariant-loop-cell

@@ -5,7 +5,7 @@ use Rattle.rh_words.specs.declared.shape.Shape.{Shape}
 use Rattle.rh_words.specs.Parts.{cell_count}
 use Rattle.rh_words.specs.Steps.{AreEntries, entry_of, no_entry}
 use Rattle.rh_words.specs.View.{View}
-use Rattle.rh_rule.specs.Rest.{IsTold}
+use Rattle.rh_rule.specs.Rest.{RuleTells}
 use Rattle.rh_helping.proofs.OwnRows.{entry_is}
 use Rattle.rh_kcas.specs.Reads.{OwnChangesAreRead}
 use Rattle.rh_swaps.specs.Swaps.{HasReadCell, Swaps}
@@ -18,7 +18,7 @@ pub read-requires-clause-cell : goal.read-requires-clause-cell
 read-requires-clause-cell g c =
     subst (λ (x : Entry). x.cell < cell_count c.args.table.now.shape) (entry_is c.args.entries.now c.args.entry no_entry c.requires.entry) (c.requires.entries.cells c.args.entry c.requires.entry)
 
-back : (law : OwnChangesAreRead) (z : Shape) (es : List Entry) (e : ℕ) (v then next : View) → AreEntries z es → e < length es → Swaps z es v then Done → IsTold z next
+back : (law : OwnChangesAreRead) (z : Shape) (es : List Entry) (e : ℕ) (v then next : View) → AreEntries z es → e < length es → Swaps z es v then Done → RuleTells z next
     → (r : Option ℕ) → HasReadCell z (entry_of es e).cell then next r → IfSome r (ReadsBack z es e v next)
 back law z es e v then next fits within swaps told None read = tt
 back law z es e v then next fits within swaps told (Some word) read = (told, law told.w z told.keep told.side told.told es e word v then next fits within swaps read told.within told.is)

@@ -2,7 +2,7 @@ use Rattle.std.proofs.Common.{◌∙◌, ◌<◌, length, ◌++◌, ◌∷◌, [
 use Rattle.std.proofs.lemmas.List.{map-append}
 use Rattle.rh_bytes.specs.Counting.{Rose, failures_of, inner_of}
 use Rattle.rh_pieces.specs.Pieces.{keys_in}
-use Rattle.rh_list_files.specs.Lists.{BlamesAt, GiveEach, Gives, HasFault}
+use Rattle.rh_list_files.specs.Lists.{BlamesAt, GiveEach, GivesNumbers, HasFault}
 use Rattle.rh_list_files.proofs.Given.{inside_too, next_path, one_more, path_at}
 use Rattle.rh_list_files.proofs.reading.read_paths.Goals as goal
 
@@ -17,7 +17,7 @@ loop-index-preserved g c =
     let path = string_bytes c.index-paths-index.result in
     let before = map keys_in c.loop-index.lists.items in
     let numbers = keys_in c.in-Ok.list in
-    let gives = subst (λ s. Gives s.files path mid end numbers) c.loop-index.invariant.shelf_fine (subst (λ p. Gives (g.S.Lender.state c.loop-index.shelf).files p mid end numbers) c.deref.ensures c.in-Ok.ensures.read) in
+    let gives = subst (λ s. GivesNumbers s.files path mid end numbers) c.loop-index.invariant.shelf_fine (subst (λ p. GivesNumbers (g.S.Lender.state c.loop-index.shelf).files p mid end numbers) c.deref.ensures c.in-Ok.ensures.read) in
     let more = one_more files (take index paths) path start mid end before numbers c.loop-index.invariant.given gives in
     let lists = ap (map keys_in) c.in-Ok-push.ensures.items ∙ map-append keys_in c.loop-index.lists.items (c.in-Ok.list ∷ []) in
     record {
@@ -39,7 +39,7 @@ returns-in_default-clause-lists g c =
     let path = string_bytes c.index-paths-index.result in
     let before = map keys_in c.loop-index.lists.items in
     let numbers = keys_in c.in-Ok.list in
-    let gives = subst (λ s. Gives s.files path mid end numbers) c.loop-index.invariant.shelf_fine (subst (λ p. Gives (g.S.Lender.state c.loop-index.shelf).files p mid end numbers) c.deref.ensures c.in-Ok.ensures.read) in
+    let gives = subst (λ s. GivesNumbers s.files path mid end numbers) c.loop-index.invariant.shelf_fine (subst (λ p. GivesNumbers (g.S.Lender.state c.loop-index.shelf).files p mid end numbers) c.deref.ensures c.in-Ok.ensures.read) in
     let more = one_more files (take index paths) path start mid end before numbers c.loop-index.invariant.given gives in
     let inside : index < length c.args.paths.now = search rules in
     record {

@@ -4,7 +4,7 @@ use Rattle.std.proofs.lemmas.List.{take_all, take_at, with_items_is}
 use Rattle.std.proofs.lemmas.Result.{IfOk-at_ok, err_from_is_err_and}
 use Rattle.rh_bytes.specs.Counting.{inner_of}
 use Rattle.rh_numbers.specs.declared.limits.TheConstants.{MAX_BYTES}
-use Rattle.rh_lists.specs.Parts.{IsPartOf, IsReadTo, so_far_of}
+use Rattle.rh_lists.specs.Parts.{IsPartOf, IsReadTo, end_of_part}
 use Rattle.rh_lists.proofs.Texts.{block_refused, going_on, last_read, last_tested, long_taken, not_failed, taken_on}
 use Rattle.rh_lists.proofs.text.read_blocks.Goals as goal
 
@@ -15,7 +15,7 @@ returns-in_err-text g c = λ before read.
     let block = c.loop-passed.block.items in
     let part = c.in-Ok-part.part in
     let second = IfOk-at_ok (IsPartOf c.so_far.result c.deref.result.now) c.in-Ok-part.is c.read_ahead-part.ensures.part in
-    let here : IsReadTo (so_far_of text) block part = subst (λ s. IsReadTo s block part) c.so_far.ensures (subst (λ l. IsReadTo c.so_far.result l part) c.deref.ensures.value second.read) in
+    let here : IsReadTo (end_of_part text) block part = subst (λ s. IsReadTo s block part) c.so_far.ensures (subst (λ l. IsReadTo c.so_far.result l part) c.deref.ensures.value second.read) in
     rw (p.1, p.2) (record {
       known = block_refused _ _ _ _ block text c.in_err-text.field-0.0 (c.loop-passed.invariant.going before read) (λ b rest r. c.in_err-text.ensures.read b block rest r here);
       tested = search rules;
@@ -33,7 +33,7 @@ returns-then-count-len g c = λ before read.
     let filled = c.read_ahead-part.result.1 in
     let next = c.read_ahead-part.new.next in
     let second = IfOk-at_ok (IsPartOf c.so_far.result c.deref.result.now) c.in-Ok-part.is c.read_ahead-part.ensures.part in
-    let here : IsReadTo (so_far_of text) block part = subst (λ s. IsReadTo s block part) c.so_far.ensures (subst (λ l. IsReadTo c.so_far.result l part) c.deref.ensures.value second.read) in
+    let here : IsReadTo (end_of_part text) block part = subst (λ s. IsReadTo s block part) c.so_far.ensures (subst (λ l. IsReadTo c.so_far.result l part) c.deref.ensures.value second.read) in
     let len : length next ≡ c.loop-passed.next.len = search rules in
     let short : filled.count < length next = search rules in
     let same : c.deref-then-count-len.result.now ≡ next = c.deref-then-count-len.ensures.value ∙ take_at next (drop (length next) c.loop-passed.next.items) c.loop-passed.next.len len in
@@ -58,7 +58,7 @@ loop-passed-preserved g c =
     let filled = c.read_ahead-part.result.1 in
     let next = c.read_ahead-part.new.next in
     let read = IfOk-at_ok (IsPartOf c.so_far.result c.deref.result.now) c.in-Ok-part.is c.read_ahead-part.ensures.part in
-    let here : IsReadTo (so_far_of text) block part = subst (λ s. IsReadTo s block part) c.so_far.ensures (subst (λ l. IsReadTo c.so_far.result l part) c.deref.ensures.value read.read) in
+    let here : IsReadTo (end_of_part text) block part = subst (λ s. IsReadTo s block part) c.so_far.ensures (subst (λ l. IsReadTo c.so_far.result l part) c.deref.ensures.value read.read) in
     let len : length next ≡ c.loop-passed.next.len = search rules in
     let size : c.len-in-loop-passed-2.result ≡ length next = search rules in
     let full : length next ≤ filled.count = search rules in

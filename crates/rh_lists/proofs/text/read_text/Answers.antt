@@ -4,7 +4,7 @@ use Rattle.std.proofs.lemmas.List.{take_all, take_at}
 use Rattle.std.proofs.lemmas.Result.{err_from_is_err_and}
 use Rattle.rh_bytes.specs.Counting.{inner_of}
 use Rattle.rh_numbers.specs.declared.limits.TheConstants.{MAX_BYTES}
-use Rattle.rh_lists.specs.Parts.{IsReadTo, so_far_of}
+use Rattle.rh_lists.specs.Parts.{IsReadTo, end_of_part}
 use Rattle.rh_lists.proofs.Texts.{block_first, block_refused, first_going, first_tested, has_more, only_read, only_tested}
 use Rattle.rh_lists.proofs.text.read_text.Goals as goal
 
@@ -37,7 +37,7 @@ returns-in_err-text g c =
     let comes : Consumes start now buf = subst (Consumes start now) all c.fill_front-count.ensures.bytes in
     let part = c.in-Ok-read.part in
     let same : c.deref-2.result.now ≡ buf = c.deref-2.ensures.value ∙ take_at buf (drop (length buf) c.in-Ok-vec.first.items) c.in-Ok-vec.first.len len in
-    let here : IsReadTo (so_far_of c.in-Ok.front) buf part = subst (λ s. IsReadTo s buf part) c.so_far.ensures (subst (λ l. IsReadTo c.so_far.result l part) same c.in-Ok-read.ensures.read) in
+    let here : IsReadTo (end_of_part c.in-Ok.front) buf part = subst (λ s. IsReadTo s buf part) c.so_far.ensures (subst (λ l. IsReadTo c.so_far.result l part) same c.in-Ok-read.ensures.read) in
     let p = err_from_is_err_and c.from_residual.result c.from_residual.ensures.1 in
     rw (p.1, p.2) (record {
       known = block_refused _ _ _ _ buf c.in-Ok.front c.in_err-text.field-0.0 (first_going _ start now c.in-Ok.front buf c.in-Ok.ensures.read comes) (λ b rest r. c.in_err-text.ensures.read b buf rest r here);
@@ -58,7 +58,7 @@ returns g c =
     let comes : Consumes start now buf = subst (Consumes start now) all c.fill_front-count.ensures.bytes in
     let part = c.in-Ok-read.part in
     let same : c.deref-2.result.now ≡ buf = c.deref-2.ensures.value ∙ take_at buf (drop (length buf) c.in-Ok-vec.first.items) c.in-Ok-vec.first.len len in
-    let here : IsReadTo (so_far_of c.in-Ok.front) buf part = subst (λ s. IsReadTo s buf part) c.so_far.ensures (subst (λ l. IsReadTo c.so_far.result l part) same c.in-Ok-read.ensures.read) in
+    let here : IsReadTo (end_of_part c.in-Ok.front) buf part = subst (λ s. IsReadTo s buf part) c.so_far.ensures (subst (λ l. IsReadTo c.so_far.result l part) same c.in-Ok-read.ensures.read) in
     let rest = c.read_on.ensures (c.args.begun.now ++ buf) (c.in_ok-text.ensures.read c.args.begun.now buf c.in-Ok.ensures.read here) in
     record {
       known = block_first c.args.begun.now start now _ buf c.read_on.result comes rest.known;

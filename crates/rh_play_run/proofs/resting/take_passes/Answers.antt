@@ -1,5 +1,5 @@
 use Rattle.std.proofs.Common.{◌≡◌, ℕ, suc, ◌+◌, ◌-◌, ◌∙◌, List, [], ◌++◌, append_assoc, arith, subst, sym}
-use Rattle.rh_play_run.specs.Pieces.{Piece}
+use Rattle.rh_play_run.specs.Pieces.{LogEntry}
 use Rattle.rh_play_run.specs.Schedule.{PassesToRest}
 use Rattle.rh_play_run.proofs.Following.{last_pass, nothing_told, one_pass_more, quiet_pass, then_tells}
 use Rattle.rh_play_run.proofs.Keeping.{each_keeps}
@@ -27,7 +27,7 @@ passes-preserved c =
       tells = then_tells _ _ _ before.done turns.0 before.tells turns.2;
       rests = λ left is rest next rests.
           let here : c.passes.counter + suc left ≡ c.args.passes = omega arith in
-          subst (λ (pieces : List Piece). PassesToRest c.args.passes c.args.more c.args.player.now pieces next) (sym (append_assoc before.done turns.0 rest))
+          subst (λ (pieces : List LogEntry). PassesToRest c.args.passes c.args.more c.args.player.now pieces next) (sym (append_assoc before.done turns.0 rest))
           (before.rests (suc left) here (turns.0 ++ rest) next (one_pass_more _ _ _ _ _ _ turns.0 rest before.workers pass rests));
     }
 

@@ -1,5 +1,5 @@
 use Rattle.std.proofs.Common.{◌≡◌, ℕ, suc, ◌+◌, ◌||◌, ◌∙◌, false, List, [], ◌++◌, append-nil, append_assoc, arith, subst, sym}
-use Rattle.rh_play_run.specs.Pieces.{Piece}
+use Rattle.rh_play_run.specs.Pieces.{LogEntry}
 use Rattle.rh_play_run.specs.Schedule.{TurnOfEach, makes_step}
 use Rattle.rh_play_run.proofs.Following.{no_worker_left, nothing_told, one_worker_more, then_tells}
 use Rattle.rh_play_run.proofs.resting.take_turn_of_each.Goals as goal
@@ -28,7 +28,7 @@ loop-worker-preserved c =
             | then-some w ↦ rw w.if-some.true (w.some-is ∙ w.if-some.true)
             | else-some w ↦ rw w.if-some.false (w.some-is ∙ c.makes_step-made.ensures)
           ] in
-          subst (λ (pieces : List Piece). TurnOfEach c.args.count 0 c.args.player.now false some pieces next) (sym (append_assoc before.done turn.0 rest))
+          subst (λ (pieces : List LogEntry). TurnOfEach c.args.count 0 c.args.player.now false some pieces next) (sym (append_assoc before.done turn.0 rest))
           (before.turns (suc more) here some (turn.0 ++ rest) next (one_worker_more _ _ _ _ _ _ _ _ _ turn.0 rest turn.1 after turns));
     }
 
@@ -37,4 +37,4 @@ returns c =
     let here : c.loop-worker.worker + 0 ≡ c.args.count = omega arith in
     let before = c.loop-worker.invariant in
     let turns = before.turns 0 here _ [] _ (no_worker_left _ _ _) in
-    (before.done, subst (λ (pieces : List Piece). TurnOfEach c.args.count 0 c.args.player.now false c.loop-worker.some pieces c.loop-worker.player) (append-nil before.done) turns, before.tells)
+    (before.done, subst (λ (pieces : List LogEntry). TurnOfEach c.args.count 0 c.args.player.now false c.loop-worker.some pieces c.loop-worker.player) (append-nil before.done) turns, before.tells)

@@ -1,5 +1,5 @@
 use Rattle.std.proofs.Common.{◌≡◌, ℕ, suc, ◌+◌, ◌-◌, List, [], ◌++◌, append-nil, append_assoc, arith, subst, sym}
-use Rattle.rh_play_run.specs.Pieces.{Piece}
+use Rattle.rh_play_run.specs.Pieces.{LogEntry}
 use Rattle.rh_play_run.specs.Schedule.{TurnsUntil}
 use Rattle.rh_play_run.proofs.Following.{nothing_told, then_tells, until_limit, until_more, until_reached}
 use Rattle.rh_play_run.proofs.turns.take_turns_until.Goals as goal
@@ -22,7 +22,7 @@ turns-preserved c =
       tells = then_tells _ _ _ before.done turn.0 before.tells turn.2;
       turns = λ more is told rest next turns.
           let here : c.turns.counter + suc more ≡ c.args.limit = omega arith in
-          subst (λ (pieces : List Piece). TurnsUntil c.args.limit c.args.worker c.args.kind c.args.player.now told pieces next) (sym (append_assoc before.done turn.0 rest))
+          subst (λ (pieces : List LogEntry). TurnsUntil c.args.limit c.args.worker c.args.kind c.args.player.now told pieces next) (sym (append_assoc before.done turn.0 rest))
           (before.turns (suc more) here told (turn.0 ++ rest) next (until_more _ _ _ _ _ _ _ _ turn.0 rest turn.1 (c.reaches.ensures.other c.if-reaches.false) turns));
     }
 
@@ -42,4 +42,4 @@ returns c =
     let here : c.turns.counter + 0 ≡ c.args.limit = omega arith in
     let before = c.turns.invariant in
     let turns = before.turns 0 here _ [] _ (until_limit _ _ _) in
-    (before.done, subst (λ (pieces : List Piece). TurnsUntil c.args.limit c.args.worker c.args.kind c.args.player.now _ pieces c.turns.player) (append-nil before.done) turns, before.tells)
+    (before.done, subst (λ (pieces : List LogEntry). TurnsUntil c.args.limit c.args.worker c.args.kind c.args.player.now _ pieces c.turns.player) (append-nil before.done) turns, before.tells)

@@ -1,6 +1,6 @@
 use Rattle.std.proofs.Common.{ℕ, Option}
 use Rattle.rh_rule.specs.declared.rule.Sitter.{Sitter}
-use Rattle.rh_steps.specs.Relies.{Knows}
+use Rattle.rh_carrier.specs.Relies.{Knows}
 use Rattle.rh_shared.specs.Seats.{IsHere, IsSame, sitter_of, view_of}
 use Rattle.rh_helping.specs.Machine.{settling_of}
 use Rattle.rh_helping.specs.Next.Settles.{Desc}

@@ -1,5 +1,5 @@
 use Rattle.std.proofs.Common.{ℕ, suc, Some, ◌∷◌, ◌∙◌, ap, subst, sym}
-use Rattle.rh_steps.specs.Own.{KnowsOwn}
+use Rattle.rh_carrier.specs.Own.{KnowsOwn}
 use Rattle.rh_shared.proofs.Lending.{stays_on}
 use Rattle.rh_swaps.proofs.Left.{fewer_left}
 use Rattle.rh_swaps.proofs.Noting.{made_notes, noted_on, step_opening, step_worker}

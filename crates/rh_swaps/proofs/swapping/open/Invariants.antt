@@ -1,7 +1,7 @@
 use Rattle.std.proofs.Common.{length}
 use Rattle.rh_helping.specs.Opening.{IsOpening, MayOpen}
 use Rattle.rh_shared.specs.Sits.{Sits, Stays}
-use Rattle.rh_steps.specs.Relies.{Trusts}
+use Rattle.rh_carrier.specs.Relies.{Trusts}
 use Rattle.rh_swaps.specs.Swaps.{HasNoted}
 use Rattle.rh_swaps.proofs.Left.{steps_left}
 use Rattle.rh_swaps.proofs.swapping.open.Given as goal

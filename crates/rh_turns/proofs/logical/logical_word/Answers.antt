@@ -1,6 +1,6 @@
 use Rattle.std.proofs.Common.{sym, subst}
 use Rattle.rh_world.specs.World.{Cell}
-use Rattle.rh_run.specs.Words.{LeadsInside, WordStandsFor}
+use Rattle.rh_order.specs.Words.{LeadsInside, WordStandsFor}
 use Rattle.rh_turns.specs.Readable.{views_of}
 use Rattle.rh_turns.proofs.logical.logical_word.Goals as goal
 

@@ -5,7 +5,7 @@ use Rattle.rh_world.proofs.Tests.{is_desc_not, is_ref_yes}
 use Rattle.rh_words.specs.declared.shape.Shape.{Shape}
 use Rattle.rh_words.specs.Words.{ref_of}
 use Rattle.rh_helping.specs.Held.{IsHeld}
-use Rattle.rh_run.specs.Words.{HoldsCell}
+use Rattle.rh_order.specs.Words.{HoldsCell}
 use Rattle.rh_worker.specs.Worker.{IsWorker}
 use Rattle.rh_turns.specs.declared.hand.Hand.{Hand}
 use Rattle.rh_turns.specs.Hands.{view_of}
@@ -20,7 +20,7 @@ returns-then-owed-cell c =
     let at = c.loop-hand.hand-index in
     let inside = c.loop-hand-test.true in
     let k = views_of hands at in
-    let held = held_at hands c.requires.workers at c.hand-item.result inside c.held.result (subst (λ (h : Hand). (z : Shape) → IsWorker z h.worker → IsHeld (view_of h) c.held.result) c.hand-item.is c.held.ensures) in
+    let held = held_at hands c.requires.workers at c.hand-item.result inside c.owed_cell.result (subst (λ (h : Hand). (z : Shape) → IsWorker z h.worker → IsHeld (view_of h) c.owed_cell.result) c.hand-item.is c.owed_cell.ensures) in
     let knows = (subst (IsHeld k) c.in-Some.is held).0 in
     let same = is_ref_yes (ref_of c.in-Some.owed.piece.desc) (ref_of c.args.desc) (sym c.eq.ensures ∙ c.if-eq.true) in
     (at, inside, noted_old k c.in-Some.owed (ref_of c.args.desc) c.args.cell record { of_desc = same; at = c.if-owed-cell.true; knows = knows })
@@ -33,11 +33,11 @@ loop-hand-preserved c v l holds =
     let k = views_of hands at in
     let d = ref_of c.args.desc in
     let number = numbered_at hands c.requires.workers at c.hand-item.result inside in
-    let held = held_at hands c.requires.workers at c.hand-item.result inside c.held.result (subst (λ (h : Hand). (z : Shape) → IsWorker z h.worker → IsHeld (view_of h) c.held.result) c.hand-item.is c.held.ensures) in
+    let held = held_at hands c.requires.workers at c.hand-item.result inside c.owed_cell.result (subst (λ (h : Hand). (z : Shape) → IsWorker z h.worker → IsHeld (view_of h) c.owed_cell.result) c.hand-item.is c.owed_cell.ensures) in
     ⊎_elim
     (λ (here : v ≡ at).
     let holds_here : HoldsCell k.side at d c.args.cell = subst (λ (u : ℕ). HoldsCell (views_of hands u).side u d c.args.cell) here holds in
-    elim c.match-held.branch [
+    elim c.match-owed_cell.branch [
       | in-Some+else-eq w ↦
           let it = holds_it k at number w.in-Some.owed (subst (IsHeld k) w.in-Some.is held) d c.args.cell holds_here in
           elim w.else-eq.branch [

@@ -1,6 +1,6 @@
 use Rattle.std.proofs.Common.{ℕ, ◌<◌}
 use Rattle.rh_words.specs.Words.{ref_of}
-use Rattle.rh_run.specs.Words.{HoldsCell}
+use Rattle.rh_order.specs.Words.{HoldsCell}
 use Rattle.rh_turns.specs.Readable.{views_of}
 use Rattle.rh_turns.proofs.logical.word_held.Given as goal
 

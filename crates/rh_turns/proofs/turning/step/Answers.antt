@@ -1,5 +1,5 @@
 use Rattle.std.proofs.Common.{Option, Bool, Some, None, ℕ, ◌+◌, set, ap, inl, inr, refl, subst, sym, ◌∙◌}
-use Rattle.rh_run.specs.Advance.{Advances}
+use Rattle.rh_order.specs.Advance.{Advances}
 use Rattle.rh_worker.specs.Worker.{EndsAt}
 use Rattle.rh_turns.proofs.Recorded.{makes_so, relies_so}
 use Rattle.rh_turns.proofs.Turns.{at_key, busy_not_spent, byte_is, byte_small, key_same, next_of, share_done, share_same}

@@ -45,7 +45,7 @@ pub returns-in-Acts-clause-anew : goal.returns-in-Acts-clause-anew
 returns-in-Acts-clause-anew c before h =
     let w = c.args.worker.now in
     let z = c.args.shape.now in
-    (subst (HasScanned z before w.side.known.view w.key _) (sym c.planned-worker.ensures.unseen) (left_off z before w.side.known.view w.key w.buffer.seen.items _ c.args.count h), tt)
+    (subst (HasScanned z before w.side.known.view w.key _) (sym c.stage_for-worker.ensures.unseen) (left_off z before w.side.known.view w.key w.buffer.seen.items _ c.args.count h), tt)
 
 pub returns-after-count-cells-clause-anew : goal.returns-after-count-cells-clause-anew
 returns-after-count-cells-clause-anew c before h =

@@ -4,7 +4,7 @@ use Rattle.rh_tagword.proofs.PlainWords.{value_said, value_there}
 use Rattle.rh_layout.specs.Round.{cell_ahead}
 use Rattle.rh_words.specs.Parts.{cell_count}
 use Rattle.rh_words.specs.View.{View}
-use Rattle.rh_run.specs.Advance.{GoesOn}
+use Rattle.rh_order.specs.Advance.{GoesOn}
 use Rattle.rh_helping.specs.Next.Looked.{On, Sees}
 use Rattle.rh_helping.specs.Looking.{kind_of_looking}
 use Rattle.rh_helping.specs.Machine.{looking_of}

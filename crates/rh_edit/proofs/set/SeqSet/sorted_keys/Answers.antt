@@ -1,12 +1,12 @@
 use Rattle.rh_edit.proofs.RisingLemmas.{sorted_all, sorted_facts, AreKeysOf}
 use Rattle.rh_edit.proofs.set.SeqSet.sorted_keys.Goals as goal
 
-facts : (c : goal.After-sorted) → AreKeysOf c.args.self.now c.sorted.result.items
+facts : (c : goal.After-sort_keys) → AreKeysOf c.args.self.now c.sort_keys.result.items
 facts c =
-    sorted_facts c.self.inside.table.items c.self.inside.bits c.self.invariant.0 c.sorted.result.items
-    (sorted_all c.self.inside.table.items c.deref-value-items.result.now c.loop-value.keys.items c.sorted.result.items c.loop-value.value-index
-    c.deref-value-items.ensures.value c.loop-value-test.false c.loop-value.invariant c.sorted.ensures.moved)
-    c.self.inside.len c.args.self.now c.self.view_is c.self.invariant.1 c.self.invariant.2 c.sorted.ensures.sorted
+    sorted_facts c.self.inside.table.items c.self.inside.bits c.self.invariant.0 c.sort_keys.result.items
+    (sorted_all c.self.inside.table.items c.deref-value-items.result.now c.loop-value.keys.items c.sort_keys.result.items c.loop-value.value-index
+    c.deref-value-items.ensures.value c.loop-value-test.false c.loop-value.invariant c.sort_keys.ensures.moved)
+    c.self.inside.len c.args.self.now c.self.view_is c.self.invariant.1 c.self.invariant.2 c.sort_keys.ensures.sorted
 
 pub returns-clause-items : goal.returns-clause-items
 returns-clause-items c = (facts c).items

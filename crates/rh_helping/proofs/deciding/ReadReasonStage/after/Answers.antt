@@ -2,7 +2,7 @@ use Rattle.std.proofs.Common.{refl, sym, subst}
 use Rattle.rh_words.specs.View.{View}
 use Rattle.rh_words.specs.Words.{ref_of}
 use Rattle.rh_world.specs.Facts.Fact.{failed_at}
-use Rattle.rh_steps.specs.Own.{KnowsOwn}
+use Rattle.rh_carrier.specs.Own.{KnowsOwn}
 use Rattle.rh_helping.specs.Goal.{opened_by}
 use Rattle.rh_helping.proofs.Decisions.{reason_next}
 use Rattle.rh_helping.proofs.Growing.{own_grows}

@@ -6,8 +6,8 @@ use Rattle.rh_helping.proofs.deciding.SucceedStage.after.Goals as goal
 pub decided_word-control-requires : goal.decided_word-control-requires
 decided_word-control-requires g c = let f = c.requires in (task_serial _ _ f.knows c.args.machine.now.task f.stands.0, tt)
 
-pub decided-requires-clause-follows : goal.decided-requires-clause-follows
-decided-requires-clause-follows g c =
+pub after_decide-requires-clause-follows : goal.after_decide-requires-clause-follows
+after_decide-requires-clause-follows g c =
     let f = c.requires in record {
       before = f.before;
       knows = f.knows;
@@ -24,4 +24,4 @@ decided-requires-clause-follows g c =
     }
 
 pub returns : goal.returns
-returns g c = c.decided.ensures _ refl
+returns g c = c.after_decide.ensures _ refl

@@ -5,7 +5,7 @@ use Rattle.rh_words.specs.Words.{ref_of}
 use Rattle.rh_words.specs.View.{View}
 use Rattle.rh_words.specs.View.RowWord.{cell_word, new_word, old_word}
 use Rattle.rh_helping.specs.declared.goal.Owed.{Owed}
-use Rattle.rh_steps.specs.Own.{KnowsOwn, OwesNothing}
+use Rattle.rh_carrier.specs.Own.{KnowsOwn, OwesNothing}
 use Rattle.rh_helping.specs.Goal.{GivesBack, HasReason, KnowsGoal, opened_by}
 use Rattle.rh_helping.specs.Machine.{goal_of}
 use Rattle.rh_helping.specs.Work.{IsGivenUp, Owes}

@@ -4,7 +4,7 @@ use Rattle.rh_world.specs.Facts.Fact.{stale}
 use Rattle.rh_words.specs.Words.{ref_of}
 use Rattle.rh_words.specs.View.{View}
 use Rattle.rh_words.specs.View.RowWord.{length_word}
-use Rattle.rh_steps.specs.Own.{KnowsOwn, OwesNothing}
+use Rattle.rh_carrier.specs.Own.{KnowsOwn, OwesNothing}
 use Rattle.rh_helping.specs.Goal.{opened_by}
 use Rattle.rh_helping.specs.Work.{Begins}
 use Rattle.rh_helping.proofs.Growing.{met_grows, nothing_grows, own_grows}

@@ -3,7 +3,7 @@ use Rattle.rh_words.specs.View.{View}
 use Rattle.rh_words.specs.Words.{ref_of}
 use Rattle.rh_helping.specs.declared.goal.Owed.{Owed}
 use Rattle.rh_helping.specs.declared.goal.Task.{Task}
-use Rattle.rh_steps.specs.Own.{KnowsOwn}
+use Rattle.rh_carrier.specs.Own.{KnowsOwn}
 use Rattle.rh_helping.specs.Goal.{opened_by}
 use Rattle.rh_helping.specs.Work.{Begins, IsDecidedOrStale}
 use Rattle.rh_helping.proofs.Leading.{goes_on}
@@ -15,7 +15,7 @@ begin-requires g c =
     let f = c.requires in
     let t = c.args.machine.now.task in record {
       between = record { trusts = c.requires.trusts; own = subst (λ (n : View). KnowsOwn n (opened_by c.args.opens)) (sym f.view_is) (settled_own _ _ f.stands.0 _ f.own (Some c.args.machine.now.change.old) c.args._found) };
-      begins = subst (Begins c.args.side.now.known.view) (sym (c.decided-machine.ensures ∙ ap (λ (o : Owed). let u : Task = record { desc = t.desc; size = t.size; state = c.in-Some.state; entry = 0; owed = Some o; reason = None } in u) c.owed.ensures))
+      begins = subst (Begins c.args.side.now.known.view) (sym (c.as_decided-machine.ensures ∙ ap (λ (o : Owed). let u : Task = record { desc = t.desc; size = t.size; state = c.in-Some.state; entry = 0; owed = Some o; reason = None } in u) c.as_owed.ensures))
           (demoted _ _ f.stands.0 c.args._found _ f.view_is c.in-Some.state (subst (λ k. IsDecidedOrStale f.before (ref_of t.desc) k) c.in-Some.is f.stands.1));
     }
 

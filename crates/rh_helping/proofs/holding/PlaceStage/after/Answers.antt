@@ -3,11 +3,11 @@ use Rattle.rh_world.specs.Facts.Fact.{found, installed, met, mismatch}
 use Rattle.rh_words.specs.declared.reference.Ref.{Ref as Reference}
 use Rattle.rh_words.specs.View.{View}
 use Rattle.rh_words.specs.Words.{ref_of}
-use Rattle.rh_helping.specs.Next.Outcome.{On}
+use Rattle.rh_helping.specs.Next.StageOutcome.{On}
 use Rattle.rh_helping.specs.Next.{Work as work}
 use Rattle.rh_helping.specs.Next.{Settles as settles}
 use Rattle.rh_helping.specs.Next.{Settles}
-use Rattle.rh_steps.specs.Own.{KnowsOwn}
+use Rattle.rh_carrier.specs.Own.{KnowsOwn}
 use Rattle.rh_helping.specs.Goal.{opened_by}
 use Rattle.rh_helping.specs.Machine.{goal_of}
 use Rattle.rh_helping.specs.Work.{IsNextTask, Leads}

@@ -1,6 +1,6 @@
 use Rattle.std.proofs.Common.{ap, eqb, None, ℕ}
 use Rattle.rh_words.specs.Words.{ref_of}
-use Rattle.rh_helping.specs.Next.Outcome.{On}
+use Rattle.rh_helping.specs.Next.StageOutcome.{On}
 use Rattle.rh_helping.specs.Next.{Work as work}
 use Rattle.rh_helping.specs.Machine.{goal_of}
 use Rattle.rh_helping.proofs.Leading.{goes_on, lead}

@@ -14,7 +14,7 @@ begin-requires g c =
     let f = c.requires in
     let t = c.args.machine.now.task in record {
       between = record { trusts = c.requires.trusts; own = recheck_own f.before (goal_of c.args.machine.now) c.args.machine.now.promoted f.stands _ c.args.found _ (f.finds.1 (task_known _ _ f.knows c.args.machine.now.task f.stands.goal.task)) f.view_is (opened_by c.args.opens) f.own (Some c.in-Some.state) c.in-Some.ensures };
-      begins = subst (Begins c.args.side.now.known.view) (sym (c.decided-machine.ensures ∙ ap (λ (o : Owed). let u : Task = record { desc = t.desc; size = t.size; state = c.in-Some.state; entry = 0; owed = Some o; reason = None } in u) c.owed.ensures))
+      begins = subst (Begins c.args.side.now.known.view) (sym (c.as_decided-machine.ensures ∙ ap (λ (o : Owed). let u : Task = record { desc = t.desc; size = t.size; state = c.in-Some.state; entry = 0; owed = Some o; reason = None } in u) c.as_owed.ensures))
           (recheck_decided f.before (goal_of c.args.machine.now) c.args.machine.now.promoted f.stands _ c.args.found _ (f.finds.1 (task_known _ _ f.knows c.args.machine.now.task f.stands.goal.task)) f.view_is c.in-Some.state c.in-Some.ensures (sym c.if-is_decided.ensures));
     }
 

@@ -17,8 +17,8 @@ make-found-requires-clause-allowed g c =
 pub decided_word-failed-requires : goal.decided_word-failed-requires
 decided_word-failed-requires g c = fail_control _ _ c.requires.relies.now.knows c.args.self.now.task c.requires.stands.0.at.task c.args.side.now.worker c.args.side.now.same_worker
 
-pub decided-requires-clause-follows : goal.decided-requires-clause-follows
-decided-requires-clause-follows g c =
+pub after_decide-requires-clause-follows : goal.after_decide-requires-clause-follows
+after_decide-requires-clause-follows g c =
     let h = c.requires.stands.0 in
     let t = c.args.self.now.task in record {
       before = c.args.side.now.known.view;
@@ -41,5 +41,5 @@ returns g c =
     let t = c.args.self.now.task in
     let asks = ap (λ (w : ℕ). Step.decides (ref_of t.desc) (failed 0 w)) c.args.side.now.same_worker in
     let may = subst (λ (s : Step). Allowed c.args.shape.now v s) asks (may_request _ _ c.requires.relies.now.knows _ c.requires.own (work.Fail t) c.requires.stands) in
-    let to = c.decided.ensures (work.Fail t) refl in
+    let to = c.after_decide.ensures (work.Fail t) refl in
     record { made = asked_made _ _ _ _ _ _ _ _ _ _ (of_work v (work.Fail t)) (sym asks) to.same may c.make-found.ensures; leads = to.leads; ends = to.ends }

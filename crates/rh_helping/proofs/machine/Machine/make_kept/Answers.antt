@@ -2,7 +2,7 @@ use Rattle.std.proofs.Common.{◌≡◌, refl, subst, sym}
 use Rattle.rh_words.specs.Steps.{Allowed, Step, noted}
 use Rattle.rh_helping.specs.Machine.{work_at}
 use Rattle.rh_helping.specs.Next.{Work}
-use Rattle.rh_helping.specs.Next.Outcome.{On}
+use Rattle.rh_helping.specs.Next.StageOutcome.{On}
 use Rattle.rh_helping.specs.Work.{Leads}
 use Rattle.rh_helping.proofs.Kept.{kept_leads, may_keep}
 use Rattle.rh_helping.proofs.Requesting.{asked_made, of_work}

@@ -3,7 +3,7 @@ use Rattle.rh_world.specs.World.{In}
 use Rattle.rh_world.specs.Facts.Fact.{known}
 use Rattle.rh_words.specs.View.{View}
 use Rattle.rh_helping.specs.declared.goal.OpenDesc.{OpenDesc}
-use Rattle.rh_steps.specs.Own.{KnowsOwn}
+use Rattle.rh_carrier.specs.Own.{KnowsOwn}
 use Rattle.rh_helping.specs.Goal.{opened_by}
 use Rattle.rh_helping.proofs.Owing.{open_all_noted}
 use Rattle.rh_helping.proofs.machine.Machine.resume.Goals as goal

@@ -2,7 +2,7 @@ use Rattle.std.proofs.Common.{ap, arith, inl, refl, subst, sym, true≢false, �
 use Rattle.rh_words.specs.View.{View}
 use Rattle.rh_helping.specs.declared.goal.Owed.{Owed}
 use Rattle.rh_helping.specs.declared.machine.Ended.{Ended}
-use Rattle.rh_helping.specs.Next.Outcome.{Closed}
+use Rattle.rh_helping.specs.Next.StageOutcome.{Closed}
 use Rattle.rh_helping.specs.Goal.{opened_by, released_value}
 use Rattle.rh_helping.specs.Machine.{goal_of}
 use Rattle.rh_helping.specs.Work.{IsNextTask, Leads}
@@ -32,7 +32,7 @@ returns-then-is_open g c =
     let worker = ap (λ (n : View). n.worker) (sym f.view_is) ∙ c.args.side.now.same_worker in
     let p = c.is_open.ensures.0 c.if-is_open.true in record {
       same = refl;
-      leads = subst (λ (k : Ended). Leads c.args.shape.now c.args.side.now.known.view (opened_by c.args.opens) (Closed k)) (sym c.ended.ensures)
+      leads = subst (λ (k : Ended). Leads c.args.shape.now c.args.side.now.known.view (opened_by c.args.opens) (Closed k)) (sym c.end_of.ensures)
           (release_closes c.args.shape.now f.before _ f.knows (goal_of c.args.machine.now) f.stands.0 f.stands.1 (opened_by c.args.opens) f.own f.stands.2 c.args._found (released_value c.args.machine.now.task.state c.args.machine.now.change.old c.args.machine.now.change.new) f.view_is f.stands.3 c.if-task.false (p.0 ∙ sym worker) p.1);
       ends = (goal_of c.args.machine.now, refl, omega (arith, c.requires.stands.0.entry, c.if-task.false));
     }

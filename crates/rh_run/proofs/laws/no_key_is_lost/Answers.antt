@@ -1,5 +1,0 @@
-use Rattle.rh_run.proofs.Moving.{no_key_is_lost}
-use Rattle.rh_run.proofs.laws.no_key_is_lost.Goals as goal
-
-pub returns : goal.returns
-returns c = no_key_is_lost

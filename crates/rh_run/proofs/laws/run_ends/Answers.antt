@@ -1,9 +1,0 @@
-use Rattle.rh_run.proofs.Sharing.{run_shared_ends}
-use Rattle.rh_run.proofs.Ending.{run_ends}
-use Rattle.rh_run.proofs.laws.run_ends.Goals as goal
-
-pub returns-clause-pieces : goal.returns-clause-pieces
-returns-clause-pieces c = run_ends
-
-pub returns-clause-shared : goal.returns-clause-shared
-returns-clause-shared c = run_shared_ends

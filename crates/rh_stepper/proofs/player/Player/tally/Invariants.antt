@@ -1,9 +1,0 @@
-use Rattle.std.proofs.Common.{◌≡◌, map, take}
-use Rattle.rh_stepper.specs.Made.{cut, total}
-use Rattle.rh_stepper.proofs.player.Player.tally.Given as goal
-
-abbrev pub invariant-loop-hand : goal.invariant-loop-hand
-invariant-loop-hand l = record {
-  done : l.done ≡ cut (total (map (λ h. h.done) (take l.hand-index l.hand-items)));
-  changed : l.changed ≡ cut (total (map (λ h. h.changed) (take l.hand-index l.hand-items)));
-}
