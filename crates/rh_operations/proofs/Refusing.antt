@@ -6,7 +6,8 @@ use Rattle.rh_key_files.specs.Source.{Coming}
 use Rattle.rh_runner.specs.declared.runner.PhaseFault.{PhaseFault}
 use Rattle.rh_runner.specs.declared.runner.PhaseFault.TheVariants as phase_faults
 use Rattle.rh_runner.specs.declared.fault.ListFault.TheVariants as list_faults
-use Rattle.rh_runner.specs.Lists.{RefusedPhase, Took}
+use Rattle.rh_runner.specs.Lists.{Took}
+use Rattle.rh_runner.specs.Starts.{RefusedPhase}
 use Rattle.rh_operations.specs.declared.cause.Cause.{Cause}
 use Rattle.rh_operations.specs.declared.cause.Cause.TheVariants as causes
 use Rattle.rh_operations.specs.Refusals.{FaultOn, MemoryFails, RefusedBy, RefusedOn, StartFails}

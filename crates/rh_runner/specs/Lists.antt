@@ -1,10 +1,9 @@
 -- Phases over whole lists of keys, which come in batches.
-use Rattle.std.specs.Prelude.{◌≡◌, ℕ, List, length, All, Bool, not, Option, Some}
+use Rattle.std.specs.Prelude.{◌≡◌, ◌≢◌, ℕ, List, length, All, Bool, not, Option, Some, Result, IfErr, OnOk}
 use Rattle.std.specs.List.{filter}
 use Rattle.std.specs.FinSet.{contains}
 use Rattle.rh_layout.specs.Key.{IsKey}
 use Rattle.rh_layout.specs.Layout.{Keys, IsLayout, keys_of}
-use Rattle.rh_bytes.specs.Counting.{Rose}
 use Rattle.rh_key_files.specs.declared.fault.KeyFault.{KeyFault}
 use Rattle.rh_key_files.specs.Source.{Coming, AllCome, FaultComes}
 use Rattle.rh_ledger.specs.declared.tally.Kind.{Kind}
@@ -13,8 +12,8 @@ use Rattle.rh_ledger.specs.declared.tally.Tally.{Tally}
 use Rattle.rh_ledger.specs.Phase.{set_after, tally_of}
 use Rattle.rh_runner.specs.declared.chosen.Chosen.{Chosen}
 use Rattle.rh_runner.specs.declared.chosen.Chosen.TheVariants.{Present, Absent}
-use Rattle.rh_runner.specs.declared.runner.PhaseFault.{PhaseFault}
-use Rattle.rh_runner.specs.declared.runner.PhaseFault.TheVariants.{Memory, NoThread}
+use Rattle.rh_runner.specs.declared.runner.PhaseFault.TheVariants.{NoThread}
+use Rattle.rh_runner.specs.Starts.{RefusedPhase}
 use Rattle.rh_runner.specs.declared.fault.ListFault.{ListFault}
 use Rattle.rh_runner.specs.declared.fault.ListFault.TheVariants as faults
 
@@ -45,11 +44,6 @@ is_chosen Absent held = not held
 abbrev pub chosen : Chosen → Keys → List ℕ → List ℕ
 chosen which S list = filter (λ k. is_chosen which (contains S k)) list
 
--- Why a phase was not carried out: memory ran out, or the start of a thread was refused, which the runner counted.
-abbrev pub RefusedPhase : (starts starts' : ℕ) → PhaseFault → Type 0
-RefusedPhase n m Memory = Unit {0}
-RefusedPhase n m NoThread = Rose n m
-
 -- A fault of the keys is the one that their source told, and with any other it told none.
 abbrev pub TellsKeyFault : (told told' : Option KeyFault) → ListFault → Type 0
 TellsKeyFault before after (faults.Keys e) = after ≡ Some e
@@ -59,3 +53,11 @@ TellsKeyFault before after (faults.Phase e) = after ≡ before
 abbrev pub Refused : Coming → (starts starts' : ℕ) → ListFault → Type 0
 Refused coming n m (faults.Keys e) = FaultComes coming e
 Refused coming n m (faults.Phase e) = RefusedPhase n m e
+
+-- How the phases over a list end: where it was not gone through, this is why; a fault of the keys is the one that their source told;
+-- and no refused start of a thread is counted but one that is told.
+pub record EndsList {X : Type 0} (coming : Coming) (before after : Option KeyFault) (starts starts' : ℕ) (r : Result X ListFault) : Type 0 where
+  pub refused : IfErr r (Refused coming starts starts')
+  pub told : IfErr r (TellsKeyFault before after)
+  pub fine : OnOk r (starts' ≡ starts)
+  pub others : IfErr r (λ fault. fault ≢ faults.Phase NoThread → starts' ≡ starts)

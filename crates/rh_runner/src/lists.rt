@@ -5,7 +5,7 @@ ghost use Rattle.std.specs.FinSet as set;
 ghost use Rattle.rh_layout.specs.Layout.{IsLayout, keys_of};
 ghost use Rattle.rh_key_files.specs.Source.{FaultComes};
 ghost use Rattle.rh_ledger.specs.Phase.{looked_up};
-ghost use Rattle.rh_runner.specs.Lists.{Took, Ran, Refused, TellsKeyFault, may_add};
+ghost use Rattle.rh_runner.specs.Lists.{EndsList, Took, Ran, may_add};
 
 use crate::fault::ListFault;
 use crate::host::Host;
@@ -86,12 +86,8 @@ pub fn change_all<T: Threads + Wait + Sync, N: Runner, K: KeySource>(
     ensures done { IfOk result (λ t. (list : List ℕ)
         × Took (K.coming keys.old) (K.left_of keys.old) list
         × Ran kind scratch.old.bits list scratch.old.cells.items scratch.new.cells.items t) }
-    ensures refused { IfErr result (Refused (K.coming keys.old)
-        (N.refused_starts runner.old) (N.refused_starts runner.new)) }
-    ensures told { IfErr result (TellsKeyFault (K.told_by keys.old) (K.told_by keys.new)) }
-    ensures fine { OnOk result (N.refused_starts runner.new ≡ N.refused_starts runner.old) }
-    ensures others { IfErr result (λ fault. fault ≢ ListFault.Phase PhaseFault.NoThread →
-        N.refused_starts runner.new ≡ N.refused_starts runner.old) }
+    ensures ends { EndsList (K.coming keys.old) (K.told_by keys.old) (K.told_by keys.new)
+        (N.refused_starts runner.old) (N.refused_starts runner.new) result }
 {
     // No count of the tally is greater.
     let most = keys.left();
@@ -122,12 +118,8 @@ pub fn ask_all<T: Threads + Wait + Sync, N: Runner, K: KeySource>(
     ensures found { IfOk result (λ found. (list : List ℕ)
         × Took (K.coming keys.old) (K.left_of keys.old) list
         × (found.items ≡ looked_up (keys_of cells.now) list)) }
-    ensures refused { IfErr result (Refused (K.coming keys.old)
-        (N.refused_starts runner.old) (N.refused_starts runner.new)) }
-    ensures told { IfErr result (TellsKeyFault (K.told_by keys.old) (K.told_by keys.new)) }
-    ensures fine { OnOk result (N.refused_starts runner.new ≡ N.refused_starts runner.old) }
-    ensures others { IfErr result (λ fault. fault ≢ ListFault.Phase PhaseFault.NoThread →
-        N.refused_starts runner.new ≡ N.refused_starts runner.old) }
+    ensures ends { EndsList (K.coming keys.old) (K.told_by keys.old) (K.told_by keys.new)
+        (N.refused_starts runner.old) (N.refused_starts runner.new) result }
 {
     let many = keys.left();
     let mut found = Vec::with_capacity(host.alloc, many as usize)?;

@@ -1,13 +1,13 @@
 //! Who carries out the phases of a script.
 
-ghost use Rattle.std.specs.Prelude.{◌≡◌, ◌≢◌, ◌+◌, ◌^◌, ◌<◌, ℕ, All, IfOk, IsErrOf, OnOk, OnErr};
+ghost use Rattle.std.specs.Prelude.{◌≡◌, ◌≢◌, ◌+◌, ◌^◌, ◌<◌, ℕ, All, IfOk, OnOk, OnErr};
 ghost use Rattle.std.specs.FinSet as set;
 ghost use Rattle.std.specs.Thread.{IsSync};
 ghost use Rattle.rh_layout.specs.Key.{IsKey};
 ghost use Rattle.rh_layout.specs.Layout.{IsLayout, keys_of};
-ghost use Rattle.rh_bytes.specs.Counting.{Rose};
 ghost use Rattle.rh_ledger.specs.Phase.{set_after, tally_of, looked_up, most_added};
 ghost use Rattle.rh_runner.specs.Cells.{AreTheCells};
+ghost use Rattle.rh_runner.specs.Starts.{CountsStarts};
 
 use crate::lists::{LOOK_UPS, PHASE};
 use rh_ledger::{Kind, Tally};
@@ -77,12 +77,8 @@ pub trait Runner {
             (set_after kind (keys_of cells.old.items) keys.now) cells.new.items) }
         ensures tally { IfOk result (λ t. t ≡ tally_of kind (keys_of cells.old.items) keys.now) }
         ensures unchanged { OnErr result (cells.new.items ≡ cells.old.items) }
-        ensures same { workers self.new ≡ workers self.old }
-        ensures no_thread { IsErrOf result PhaseFault.NoThread →
-            (1 < workers self.old) × Rose (refused_starts self.old) (refused_starts self.new) }
-        ensures memory { IsErrOf result PhaseFault.Memory →
-            refused_starts self.new ≡ refused_starts self.old }
-        ensures fine { OnOk result (refused_starts self.new ≡ refused_starts self.old) };
+        ensures starts { CountsStarts (workers self.old) (workers self.new)
+            (refused_starts self.old) (refused_starts self.new) result };
 
     /// Looks the keys up, and answers in list order which are there.
     fn ask<R: Threads + Wait + Sync>(
@@ -99,10 +95,6 @@ pub trait Runner {
         requires room { set.len (keys_of cells.now) < 2 ^ bits }
         ensures found { IfOk result (λ found.
             found.items ≡ looked_up (keys_of cells.now) keys.now) }
-        ensures same { workers self.new ≡ workers self.old }
-        ensures no_thread { IsErrOf result PhaseFault.NoThread →
-            (1 < workers self.old) × Rose (refused_starts self.old) (refused_starts self.new) }
-        ensures memory { IsErrOf result PhaseFault.Memory →
-            refused_starts self.new ≡ refused_starts self.old }
-        ensures fine { OnOk result (refused_starts self.new ≡ refused_starts self.old) };
+        ensures starts { CountsStarts (workers self.old) (workers self.new)
+            (refused_starts self.old) (refused_starts self.new) result };
 }

@@ -19,4 +19,4 @@ returns-in_err-take_all-clause-refused g c =
 pub returns-in_err-found-clause-refused : goal.returns-in_err-found-clause-refused
 returns-in_err-found-clause-refused g c =
     let p = err_from_is_err_and c.from_residual-in_err-found.result c.from_residual-in_err-found.ensures.1 in
-    rw p.1 (Phase _, p.2, phase_refused _ _ _ (λ is. (c.in_err-found.ensures.no_thread (ap (λ (fault : PhaseFault). Err fault) is)).1))
+    rw p.1 (Phase _, p.2, phase_refused _ _ _ (λ is. (c.in_err-found.ensures.starts.no_thread (ap (λ (fault : PhaseFault). Err fault) is)).1))

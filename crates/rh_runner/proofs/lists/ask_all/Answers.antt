@@ -14,6 +14,6 @@ loop-room-preserved g c =
       _,
       more_came c.loop-room.invariant.1 _ c.next_keys.new.batch _ c.in_ok-n.n c.in_ok-n.ensures.gives c.if-n-eq0.false c.in_ok-n.ensures.room c.in_ok-n.ensures.left c.in_ok-n.ensures.in_range,
       look_ups_more (keys_of c.args.cells.now) c.loop-room.invariant.0 (take c.in_ok-n.n c.next_keys.new.batch) c.loop-room.found.items c.deref.result.now c.extend_from_slice.new.self.items c.loop-room.invariant.2 (rw c.deref.ensures.value c.in_ok-answers.ensures.found) longer,
-      c.in_ok-answers.ensures.fine ∙ c.loop-room.invariant.3,
+      c.in_ok-answers.ensures.starts.fine ∙ c.loop-room.invariant.3,
       c.in_ok-n.ensures.fine ∙ c.loop-room.invariant.4,
     )

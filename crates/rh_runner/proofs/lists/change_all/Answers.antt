@@ -28,6 +28,6 @@ loop-room-preserved g c =
       _,
       more_came c.loop-room.invariant.1 _ c.next_keys.new.batch _ c.in_ok-n.n c.in_ok-n.ensures.gives c.if-n-eq0.false c.in_ok-n.ensures.room c.in_ok-n.ensures.left c.in_ok-n.ensures.in_range,
       record { layout = ran.layout; held = ran.held; tally = sums ∙ ran.tally },
-      c.in_ok-told.ensures.fine ∙ c.loop-room.invariant.3,
+      c.in_ok-told.ensures.starts.fine ∙ c.loop-room.invariant.3,
       c.in_ok-n.ensures.fine ∙ c.loop-room.invariant.4,
     )
