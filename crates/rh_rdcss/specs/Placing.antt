@@ -14,12 +14,13 @@ use Rattle.rh_words.specs.View.{View}
 use Rattle.rh_words.specs.Words.{desc_number, ref_of}
 use Rattle.rh_words.specs.Steps.{IsDesc}
 use Rattle.rh_words.specs.Steps.Step.{places, reads, writes}
+use Rattle.rh_carrier.specs.Relies.{Knows}
 use Rattle.rh_rdcss.specs.declared.calls.Placed.{Placed}
 use Rattle.rh_rdcss.specs.declared.calls.Placed.TheVariants as placed
 use Rattle.rh_rule.specs.declared.rule.Sitter.{Sitter}
 use Rattle.rh_shared.specs.declared.seat.OwnMark.{OwnMark}
 use Rattle.rh_shared.specs.declared.seat.Seat.{Seat}
-use Rattle.rh_shared.specs.Seats.{view_of}
+use Rattle.rh_shared.specs.Seats.{SitsSame, view_of}
 use Rattle.rh_rdcss.specs.Calls.{Learned}
 
 -- the worker opened the descriptor or read its control as not unused, and no own mark is unsettled
@@ -130,3 +131,10 @@ pub record IsMarkFor (d : Reference) (e : ℕ) (v : View) (own : OwnMark) : Type
 
 abbrev pub IsMine : Reference → (e : ℕ) → Seat → Type 0
 IsMine d e s = (own : OwnMark) × (s.placed ≡ Some own) × IsMarkFor d e (view_of s) own
+
+-- The seat sits as it did and still knows what it did. It keeps the mark that stands in the cell now, or else the one that it kept before.
+pub record LeavesMark (z : Shape) (d : Reference) (e : ℕ) (old : Seat) (outcome : Placed) (new : Seat) : Type 0 where
+  pub same : SitsSame old new
+  pub knows : Knows z (view_of new)
+  pub mine : outcome ≡ placed.Mine → IsMine d e new
+  pub others : outcome ≢ placed.Mine → new.placed ≡ old.placed

@@ -1,19 +1,17 @@
 //! The calls of one worker at a table.
 
-ghost use Rattle.std.specs.Prelude.{◌≡◌, ◌≢◌, ◌<◌, ℕ, IfSome, None};
+ghost use Rattle.std.specs.Prelude.{◌≡◌, ◌<◌, ℕ, IfSome, None};
 ghost use Rattle.rh_world.specs.World.{In};
 ghost use Rattle.rh_world.specs.Facts.Fact.{found};
 ghost use Rattle.rh_words.specs.Parts.{cell_count};
 ghost use Rattle.rh_words.specs.Steps.{IsDesc};
 ghost use Rattle.rh_words.specs.Steps.Step.{reads};
 ghost use Rattle.rh_words.specs.Words.{cell_in, ref_of};
-ghost use Rattle.rh_carrier.specs.Relies.{Knows};
 ghost use Rattle.rh_shared.specs.Rests.{SeatKnows, StaysKnown};
-ghost use Rattle.rh_shared.specs.Seats.{IsSame, SitsSame, sitter_of, view_of};
+ghost use Rattle.rh_shared.specs.Seats.{IsSame, sitter_of, view_of};
 ghost use Rattle.rh_rdcss.specs.Calls.{HasStatus, Learned, Meets, SeenAs, StillKnows};
-ghost use Rattle.rh_rdcss.specs.Placing.{HasEntry, IsMine, LengthSays, MayPlace, Places};
+ghost use Rattle.rh_rdcss.specs.Placing.{HasEntry, LeavesMark, LengthSays, MayPlace, Places};
 ghost use Rattle.rh_rdcss.specs.Settling.{IsOwnUnsettled, Recalls, SettlesMark};
-ghost use Rattle.rh_rdcss.specs.declared.calls.Placed.TheVariants.{Mine};
 
 use crate::making::make;
 use crate::placing::{place_there, read_entry};
@@ -93,12 +91,9 @@ pub fn count_entries(table: &Table, seat: &mut Seat, desc: Ref) -> Option<usize>
 pub fn place(table: &Table, seat: &mut Seat, desc: Ref, entry: usize) -> Placed
     requires knows { SeatKnows table.now seat.old }
     requires entry { HasEntry table.now.shape (view_of seat.old) desc entry }
-    ensures same { SitsSame seat.old seat.new }
-    ensures knows { Knows table.now.shape (view_of seat.new) }
+    ensures leaves { LeavesMark table.now.shape desc entry seat.old result seat.new }
     ensures places { Places table.now.shape desc entry (sitter_of seat.old) result
         (sitter_of seat.new) }
-    ensures mine { result ≡ Mine → IsMine desc entry seat.new }
-    ensures others { result ≢ Mine → seat.new.placed ≡ seat.old.placed }
 {
     if seat.side.marks_used >= table.shape.rooms.marks {
         return Placed::Spent;

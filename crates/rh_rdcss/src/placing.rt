@@ -1,11 +1,9 @@
 //! Placing a mark.
 
-ghost use Rattle.std.specs.Prelude.{◌≡◌, ◌≢◌, ◌<◌};
-ghost use Rattle.rh_carrier.specs.Relies.{Knows};
+ghost use Rattle.std.specs.Prelude.{◌≡◌, ◌<◌};
 ghost use Rattle.rh_shared.specs.Rests.{SeatKnows};
-ghost use Rattle.rh_shared.specs.Seats.{IsSame, SitsSame, sitter_of, view_of};
-ghost use Rattle.rh_rdcss.specs.Placing.{EntrySays, HasEntry, IsMine, KnowsPiece, Tried, TriedSo};
-ghost use Rattle.rh_rdcss.specs.declared.calls.Placed.TheVariants.{Mine};
+ghost use Rattle.rh_shared.specs.Seats.{IsSame, sitter_of, view_of};
+ghost use Rattle.rh_rdcss.specs.Placing.{EntrySays, HasEntry, KnowsPiece, LeavesMark, Tried, TriedSo};
 
 use crate::calls::Placed;
 use crate::making::make;
@@ -45,12 +43,9 @@ pub(crate) fn place_there(table: &Table, seat: &mut Seat, piece: Piece, old: u64
     requires knows { SeatKnows table.now seat.old }
     requires knows_it { KnowsPiece table.now.shape (view_of seat.old) piece old }
     requires left { seat.old.side.marks_used < table.now.shape.rooms.marks }
-    ensures same { SitsSame seat.old seat.new }
-    ensures knows { Knows table.now.shape (view_of seat.new) }
+    ensures leaves { LeavesMark table.now.shape piece.desc piece.entry seat.old result seat.new }
     ensures tried { TriedSo table.now.shape piece old (sitter_of seat.old) result
         (sitter_of seat.new) }
-    ensures mine { result ≡ Mine → IsMine piece.desc piece.entry seat.new }
-    ensures others { result ≢ Mine → seat.new.placed ≡ seat.old.placed }
 {
     let mark = Ref {
         worker: seat.side.worker,
