@@ -25,42 +25,19 @@ struct Reading {
 }
 
 impl Reading {
-    /// Reads the next line. A fault, want of memory too, stands at this line.
-    fn read_line(&mut self, line: &[u8]) -> Result<(), ScriptFault>
+    /// Reads the next line.
+    #[tactic(auto, unfolding(crate::specs::Grammar::after_line, crate::specs::Grammar::entered))]
+    fn read_line(&mut self, line: &[u8]) -> Result<(), ScriptFaultKind>
         requires few { self.old.line ≤ MAX_LINES }
         requires known { HasRead self.old.steps.items self.old.given }
         ensures line { self.new.line ≡ self.old.line + 1 }
-        ensures few { OnOk result (self.new.line ≤ MAX_LINES) }
-        ensures known { OnOk result (HasRead self.new.steps.items self.new.given) }
-        ensures read { OnOk result
-            (after_line self.new.line (map step_as self.old.steps.items) line.now
-            ≡ Ok (map step_as self.new.steps.items)) }
-        ensures refused { IfErr result (λ fault. fault.kind ≢ ScriptFaultKind.Memory →
-            after_line self.new.line (map step_as self.old.steps.items) line.now
-            ≡ Err fault.kind) }
-        ensures at { IfErr result (λ fault. fault.line ≡ self.new.line) }
-    {
-        self.line += 1;
-        match self.enter(line) {
-            Ok(()) => Ok(()),
-            Err(kind) => Err(ScriptFault {
-                line: self.line,
-                kind,
-            }),
-        }
-    }
-
-    /// Takes in what the line says.
-    #[tactic(auto, unfolding(crate::specs::Grammar::after_line, crate::specs::Grammar::entered))]
-    fn enter(&mut self, line: &[u8]) -> Result<(), ScriptFaultKind>
-        requires { HasRead self.old.steps.items self.old.given }
-        ensures line { self.new.line ≡ self.old.line }
         ensures few { OnOk result (self.new.line ≤ MAX_LINES) }
         ensures known { OnOk result (HasRead self.new.steps.items self.new.given) }
         ensures read { Answers
             (after_line self.new.line (map step_as self.old.steps.items) line.now)
             (λ _. map step_as self.new.steps.items) result }
     {
+        self.line += 1;
         if self.line > MAX_LINES || line.len() > MAX_LINE_BYTES {
             return Err(ScriptFaultKind::TooLong);
         }
@@ -95,7 +72,10 @@ pub fn parse(alloc: Global, text: &[u8]) -> Result<Script, ScriptFault>
     };
     let mut rest = text;
     while let Some((line, after)) = next_line(rest) {
-        reading.read_line(line)?;
+        if let Err(kind) = reading.read_line(line) {
+            let line = reading.line;
+            return Err(ScriptFault { line, kind });
+        }
         rest = after;
     }
     Ok(Script {

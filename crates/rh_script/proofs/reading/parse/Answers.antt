@@ -1,5 +1,4 @@
-use Rattle.std.proofs.lemmas.Result.{err_from_is_err_and}
-use Rattle.std.proofs.Common.{◌∙◌, ap, arith, sym, Err}
+use Rattle.std.proofs.Common.{arith}
 use Rattle.rh_lines.specs.Lines.{lines_of}
 use Rattle.rh_lines.proofs.Reading.{all_done, begun, gone_on, refused}
 use Rattle.rh_script.specs.Grammar.{script_grammar}
@@ -14,19 +13,15 @@ loop-line-init c = record {
   known = rw c.new-2.ensures.items (record { kept = c.new.ensures; numbered = no_step_numbered });
 }
 
-pub returns-in_err-read_line-clause-refused : goal.returns-in_err-read_line-clause-refused
-returns-in_err-read_line-clause-refused c =
-    let fault = err_from_is_err_and c.from_residual.result c.from_residual.ensures.1 in
-    let kind = c.in_err-read_line.field-0.0.kind in
-    rw (fault.1, fault.2) (λ known.
-    refused script_grammar c.args.text.now c.loop-line.reading.line _ _ kind _ _ _ c.loop-line.invariant.stands c.in-Some.ensures c.in_err-read_line.ensures.line (c.in_err-read_line.ensures.refused known)
-    ∙ ap (λ line. Err (record { line = line; kind = kind })) (sym c.in_err-read_line.ensures.at))
+pub returns-in-Err-clause-refused : goal.returns-in-Err-clause-refused
+returns-in-Err-clause-refused c known =
+    refused script_grammar c.args.text.now c.loop-line.reading.line _ _ c.in-Err.kind _ _ _ c.loop-line.invariant.stands c.in-Some.ensures c.read_line.ensures.line (c.in-Err.ensures.read known)
 
 pub loop-line-preserved : goal.loop-line-preserved
 loop-line-preserved c = record {
-  few = c.in_ok-read_line.ensures.few;
-  stands = gone_on script_grammar (lines_of c.args.text.now) c.loop-line.reading.line _ _ _ _ _ _ c.loop-line.invariant.stands c.in-Some.ensures c.read_line.ensures.line c.in_ok-read_line.ensures.read;
-  known = c.in_ok-read_line.ensures.known;
+  few = c.in_default-read_line.ensures.few;
+  stands = gone_on script_grammar (lines_of c.args.text.now) c.loop-line.reading.line _ _ _ _ _ _ c.loop-line.invariant.stands c.in-Some.ensures c.read_line.ensures.line c.in_default-read_line.ensures.read;
+  known = c.in_default-read_line.ensures.known;
 }
 
 pub invariant_of-result : goal.invariant_of-result
