@@ -18,7 +18,7 @@ ghost use Rattle.rh_draw.specs.declared.limits.TheConstants.{HEAD_STEPS, MAX_STE
 use crate::boxes::draw_boxes;
 use crate::canvas::Canvas;
 use crate::columns::{column_sides, column_widths, flag_changes, right_side};
-use crate::frame::{draw_all_heads, draw_frame, longest, picture_size};
+use crate::frame::{draw_all_heads, draw_frame, picture_size, title_right};
 use crate::history::{draw_notices, longest_notice};
 use crate::places::lane_x;
 use crate::records::{Record, Recording, Window, steps_drawn};
@@ -51,7 +51,7 @@ pub fn draw(
     } = *recording;
     let (view, spans) = lay_out(alloc, shape, cells, records, window)?;
     let letters = longest_notice(alloc, &view, cells, records, keys)?;
-    let size = picture_size(&view, letters, longest(title));
+    let size = picture_size(&view, letters, title_right(title));
     let tag = Tag::Svg {
         width: size.0,
         height: size.1,

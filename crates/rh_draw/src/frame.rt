@@ -21,13 +21,10 @@ use rh_svg::{Look, Tag, close, leaf, open, put_text};
 use std::alloc::AllocError;
 
 /// How wide and how high a picture is, where the longest of what is said has so many letters, and
-/// the longest line of the title so many.
-pub(crate) fn picture_size(view: &PictureLayout, said: u64, title: u64) -> (u64, u64) {
+/// its legend and title reach so far to the right.
+pub(crate) fn picture_size(view: &PictureLayout, said: u64, title_right: u64) -> (u64, u64) {
     let right = view.right.saturating_add(room_for(said));
-    (
-        right.max(LEGEND_WIDTH + room_for(title)),
-        moment_y(view.end) + BOTTOM,
-    )
+    (right.max(title_right), moment_y(view.end) + BOTTOM)
 }
 
 // How wide so many letters are, with what stands beside them.
@@ -37,16 +34,26 @@ fn room_for(letters: u64) -> u64
     2 * INDENT + LETTER * letters.min(MAX_LETTERS)
 }
 
-/// How many letters the longest of these lines has.
-pub(crate) fn longest(lines: &[Vec<u8>]) -> u64 {
-    let mut most = 0u64;
-    for line in lines {
-        most = most.max(line.len() as u64);
+/// How far a title of these lines reaches to the right, and the legend.
+pub(crate) fn title_right(title: &[Vec<u8>]) -> u64 {
+    let mut right = LEGEND_WIDTH;
+    for (number, line) in title.iter().enumerate() {
+        right = right.max(title_x(number as u64) + room_for(line.len() as u64));
     }
-    most
+    right
 }
 
-// The title: its first line above the legend, the others beside it.
+// Where a line of the title begins: the first one above the legend, the others beside it.
+fn title_x(number: u64) -> u64
+    ensures { result ≤ 2 ^ 40 }
+{
+    if number == 0 {
+        NUMBERS
+    } else {
+        LEGEND_WIDTH + INDENT
+    }
+}
+
 fn draw_title(out: &mut Vec<u8>, title: &[Vec<u8>]) -> Result<(), AllocError>
     ensures { Draws out.old.items out.new.items [] []
         (title_lines title.now) result }
@@ -54,11 +61,7 @@ fn draw_title(out: &mut Vec<u8>, title: &[Vec<u8>]) -> Result<(), AllocError>
     let mut number = 0u64;
     for line in title {
         let tag = Tag::Label {
-            x: if number == 0 {
-                NUMBERS
-            } else {
-                LEGEND_WIDTH + INDENT
-            },
+            x: title_x(number),
             y: TITLE.saturating_add(TEXT.saturating_mul(number.saturating_sub(1))),
             look: Look::Title,
         };

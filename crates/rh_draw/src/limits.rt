@@ -24,8 +24,8 @@ pub const LETTER: u64 = 7;
 /// No more letters have room in a line.
 pub const MAX_LETTERS: u64 = 1 << 32;
 
-/// How wide the legend is: the lines of the title stand to the right of it.
-pub const LEGEND_WIDTH: u64 = 600;
+/// How wide the legend is: the lines of the title behind its first stand to the right of it.
+pub const LEGEND_WIDTH: u64 = 540;
 
 /// No picture has more lanes than a table has workers.
 pub const MAX_LANES: u64 = 16;
