@@ -10,7 +10,7 @@ use std::sync::atomic::{AtomicU64, Ordering};
 use std::test::Fail;
 
 // How often the worker that waits looks at most.
-const LOOKS: u64 = 100_000_000;
+const LOOKS: u64 = 1_000_000_000;
 
 /// Holds one of two workers, and counts what it is told of.
 #[derive(Drop)]
