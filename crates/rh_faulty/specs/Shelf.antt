@@ -3,6 +3,8 @@ use Rattle.std.specs.Prelude.{List, ℕ, ◌+◌, min, ◌==◌, if◌then◌els
 use Rattle.std.specs.Global.{Global}
 use Rattle.rh_bytes.specs.Counting.{last_count}
 use Rattle.rh_shelf.specs.declared.memory.MemShelf.{MemShelf}
+use Rattle.rh_shelf.specs.Kinds.{files_of}
+use Rattle.rh_shelf.specs.Shelf.{ShelfState, uncounted}
 use Rattle.rh_faulty.specs.declared.shelf.FaultyShelf.{FaultyShelf}
 use Rattle.rh_faulty.specs.declared.shelf.ShelfFailure.{ShelfFailure}
 use Rattle.rh_faulty.specs.declared.shelf.ShelfFailure.TheVariants.{Call, Read}
@@ -36,6 +38,10 @@ next_reader s = min (s.readers + 1) last_count
 -- how often the shelf itself failed
 abbrev pub own_failures_in : FaultyShelf → ℕ
 own_failures_in s = s.failures
+
+-- what is known of it
+abbrev pub state_of : FaultyShelf → ShelfState
+state_of s = uncounted (λ shelf. Some (files_of (inner_shelf shelf))) own_failures_in s
 
 -- the number of the read that fails, of the reader of this number; 0 where none does
 abbrev pub read_that_fails : ShelfFailure → ℕ → ℕ

@@ -1,13 +1,13 @@
 //! A shelf in memory that fails once.
 
-ghost use Rattle.std.specs.Prelude.{◌≡◌, ◌≢◌, ◌⊎◌, ◌↔◌, Some, IfOk, IsErrOf, IsTrue};
-ghost use Rattle.std.specs.Prelude.{OnErr, OnOk};
+ghost use Rattle.std.specs.Prelude.{◌≡◌, ◌≢◌, ◌↔◌, Some, IfOk, IsErrOf, IsTrue, OnErr, OnOk};
 ghost use Rattle.std.specs.Bool.{OnFalse, OnTrue};
 ghost use Rattle.rh_bytes.specs.Counting.{Rose};
 ghost use Rattle.rh_shelf.specs.Kinds.{files_of};
-ghost use Rattle.rh_shelf.specs.Shelf.{Finds, InDoubt, Lacks, Puts};
+ghost use Rattle.rh_shelf.specs.Shelf.{GivesFile, TakesFile};
 ghost use Rattle.rh_faulty.specs.Shelf.{inner_shelf, failure_of, calls_of, next_call, readers_of};
 ghost use Rattle.rh_faulty.specs.Shelf.{next_reader, own_failures_in, known_bytes, read_that_fails};
+ghost use Rattle.rh_faulty.specs.Shelf.{state_of};
 ghost use Rattle.rh_faulty.specs.Streams.{fails_in, unread_of};
 
 use crate::reader::FaultyReader;
@@ -95,16 +95,8 @@ impl Shelf for FaultyShelf {
     ghost failures = { own_failures_in };
 
     fn fetch(&mut self, alloc: Global, path: &str) -> Result<FaultyReader<Vec<u8>>, ShelfFault>
-        ensures found { IfOk result (λ r.
-            Finds (Some (files_of (inner_shelf self.old))) path.now (unread_of known_bytes r)) }
-        ensures missing { IsErrOf result ShelfFault.Missing →
-            Lacks (Some (files_of (inner_shelf self.old))) path.now
-            ⊎ Rose (own_failures_in self.old) (own_failures_in self.new) }
-        ensures memory { IsErrOf result ShelfFault.Memory →
-            Rose (own_failures_in self.old) (own_failures_in self.new) }
-        ensures no_write { IsErrOf result ShelfFault.Write → ⊥ }
-        ensures fine { OnOk result (own_failures_in self.new ≡ own_failures_in self.old) }
-        ensures same_files { files_of (inner_shelf self.new) ≡ files_of (inner_shelf self.old) }
+        ensures gives { GivesFile (unread_of known_bytes) (state_of self.old) (state_of self.new)
+            path.now result }
 
         // Which call fails, and which reader.
         ensures counts { calls_of self.new ≡ next_call self.old }
@@ -134,15 +126,10 @@ impl Shelf for FaultyShelf {
     }
 
     fn put(&mut self, alloc: Global, path: &str, bytes: &[u8]) -> Result<(), ShelfFault>
-        ensures put { OnOk result (Puts (Some (files_of (inner_shelf self.old)))
-            (Some (files_of (inner_shelf self.new))) path.now bytes.now) }
-        ensures doubt { OnErr result (InDoubt (Some (files_of (inner_shelf self.old)))
-            (Some (files_of (inner_shelf self.new))) path.now) }
+        ensures takes { TakesFile (state_of self.old) (state_of self.new) path.now bytes.now
+            result }
         ensures refused { OnErr result (files_of (inner_shelf self.new)
             ≡ files_of (inner_shelf self.old)) }
-        ensures failed { OnErr result (Rose (own_failures_in self.old) (own_failures_in self.new)) }
-        ensures not_missing { IsErrOf result ShelfFault.Missing → ⊥ }
-        ensures fine { OnOk result (own_failures_in self.new ≡ own_failures_in self.old) }
 
         // Which call fails.
         ensures counts { calls_of self.new ≡ next_call self.old }

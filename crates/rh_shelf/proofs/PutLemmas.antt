@@ -21,7 +21,7 @@ put_file m n key value path bytes is has updates = λ i other.
     ∙ items_of_either (bytes_eq (string_bytes key) other) (Some value) (get_by_text m other)
     ∙ (λ j. with_file (files_in m) (is j) (has j) other)) i
 
--- where it was refused and the files are as they were, no path is in doubt
-pub none_in_doubt : {X E : Type 0} (r : Result X E) (old put new : Files) (path : List ℕ) → OnErr r (put ≡ old) → new ≡ put → OnErr r (InDoubt (Some old) (Some new) path)
-none_in_doubt (Ok x) old put new path same then = tt
-none_in_doubt (Err e) old put new path same then = (new, refl, λ other apart. ap (λ files. files other) (then ∙ same))
+-- where the files are as they were, no path is in doubt
+pub none_in_doubt : {X E : Type 0} (r : Result X E) (old new : Files) (path : List ℕ) → OnErr r (new ≡ old) → OnErr r (InDoubt (Some old) (Some new) path)
+none_in_doubt (Ok x) old new path same = tt
+none_in_doubt (Err e) old new path same = (new, refl, λ other apart. ap (λ files. files other) same)

@@ -1,7 +1,7 @@
 -- The shelf in memory, and that of real files.
-use Rattle.std.specs.Prelude.{ℕ, Option, option_map}
+use Rattle.std.specs.Prelude.{ℕ, Option, Some, option_map}
 use Rattle.std.specs.BTreeMap.{get_by_text}
-use Rattle.rh_shelf.specs.Shelf.{Files, ShelfState}
+use Rattle.rh_shelf.specs.Shelf.{Files, ShelfState, uncounted}
 use Rattle.rh_shelf.specs.declared.memory.MemShelf.{MemShelf}
 use Rattle.rh_shelf.specs.declared.file.FileShelf.{FileShelf}
 use Rattle.rh_shelf.specs.declared.lender.CountedShelf.{CountedShelf}
@@ -13,6 +13,10 @@ files_of s path = option_map (λ bytes. bytes.items) (get_by_text s.files path)
 -- how often it was refused memory
 abbrev pub failures_in : MemShelf → ℕ
 failures_in s = s.failures
+
+-- what is known of it
+abbrev pub in_memory : MemShelf → ShelfState
+in_memory s = uncounted (λ shelf. Some (files_of shelf)) failures_in s
 
 -- how often a real file could not be opened or written
 abbrev pub failed_files : {F : Type 0} → FileShelf F → ℕ

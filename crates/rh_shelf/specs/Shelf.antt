@@ -1,8 +1,10 @@
 -- What is known of a shelf: the bytes of its paths.
-use Rattle.std.specs.Prelude.{◌≡◌, ◌≢◌, ℕ, Bool, true, false, List, Option, Some, None, option_map}
+use Rattle.std.specs.Prelude.{◌≡◌, ◌≢◌, ◌⊎◌, ℕ, Bool, true, false, List, Option, Some, None, option_map, Result, IfOk, IsErrOf, OnErr, OnOk}
 use Rattle.std.specs.Str.{bytes_eq}
 use Rattle.std.specs.Map.{update}
 use Rattle.rh_bytes.specs.Counting.{Rose, last_count}
+use Rattle.rh_shelf.specs.declared.shelf.ShelfFault.{ShelfFault}
+use Rattle.rh_shelf.specs.declared.shelf.ShelfFault.TheVariants.{Memory, Missing, Write}
 
 -- the bytes of each path that there is
 abbrev pub Files : Type 0
@@ -46,3 +48,23 @@ CountsReads false old new = new.failed_reads ≡ old.failed_reads
 -- of one that counts no failed reads: that count is at its end
 abbrev pub uncounted : {S : Type 0} → (S → Option Files) → (S → ℕ) → S → ShelfState
 uncounted files failures s = record { files = files s; failures = failures s; failed_reads = last_count }
+
+-- It gives a reader of the path's bytes, from the first on, or tells why not: there is no such file, or it failed. No file changes, and
+-- no failed read is counted.
+pub record GivesFile {R : Type 0} (remaining : R → Option (List ℕ)) (old new : ShelfState) (path : List ℕ) (r : Result R ShelfFault) : Type 0 where
+  pub found : IfOk r (λ reader. Finds old.files path (remaining reader))
+  pub missing : IsErrOf r Missing → Lacks old.files path ⊎ Rose old.failures new.failures
+  pub memory : IsErrOf r Memory → Rose old.failures new.failures
+  pub no_write : IsErrOf r Write → ⊥
+  pub fine : OnOk r (new ≡ old)
+  pub same_files : new.files ≡ old.files
+  pub same_reads : new.failed_reads ≡ old.failed_reads
+
+-- It puts the bytes at the path, in place of what stood there, or it failed: then that path alone is in doubt.
+pub record TakesFile {X : Type 0} (old new : ShelfState) (path bytes : List ℕ) (r : Result X ShelfFault) : Type 0 where
+  pub put : OnOk r (Puts old.files new.files path bytes)
+  pub doubt : OnErr r (InDoubt old.files new.files path)
+  pub failed : OnErr r (Rose old.failures new.failures)
+  pub not_missing : IsErrOf r Missing → ⊥
+  pub fine : OnOk r (new.failures ≡ old.failures)
+  pub same_reads : new.failed_reads ≡ old.failed_reads

@@ -1,9 +1,9 @@
 //! Who lends files, and is given their readers back.
 
-ghost use Rattle.std.specs.Prelude.{◌≡◌, ◌≢◌, ◌⊎◌, IfOk, IsErrOf, OnErr, OnOk};
+ghost use Rattle.std.specs.Prelude.{◌≡◌, ◌≢◌};
 ghost use Rattle.rh_bytes.specs.Counting.{Rose, failures_of};
 ghost use Rattle.rh_shelf.specs.Kinds.{counted, reads_of, shelf_of};
-ghost use Rattle.rh_shelf.specs.Shelf.{Finds, InDoubt, Lacks, Puts, ShelfState, uncounted};
+ghost use Rattle.rh_shelf.specs.Shelf.{GivesFile, ShelfState, TakesFile, uncounted};
 
 use crate::shelf::{Shelf, ShelfFault};
 use rh_bytes::Counted;
@@ -23,28 +23,12 @@ pub trait Lender {
 
     /// As `fetch` of a `Shelf`.
     fn lend(&mut self, alloc: Global, path: &str) -> Result<Self::Reader, ShelfFault>
-        ensures lent { IfOk result (λ r.
-            Finds (state self.old).files path.now (Self.Reader.remaining r)) }
-        ensures missing { IsErrOf result ShelfFault.Missing →
-            Lacks (state self.old).files path.now
-            ⊎ Rose (state self.old).failures (state self.new).failures }
-        ensures memory { IsErrOf result ShelfFault.Memory →
-            Rose (state self.old).failures (state self.new).failures }
-        ensures no_write { IsErrOf result ShelfFault.Write → ⊥ }
-        ensures fine { OnOk result (state self.new ≡ state self.old) }
-        ensures same_reads { (state self.new).failed_reads ≡ (state self.old).failed_reads }
-        ensures same_files { (state self.new).files ≡ (state self.old).files };
+        ensures { GivesFile Self.Reader.remaining (state self.old) (state self.new)
+            path.now result };
 
     /// As `put` of a `Shelf`.
     fn store(&mut self, alloc: Global, path: &str, bytes: &[u8]) -> Result<(), ShelfFault>
-        ensures stored { OnOk result
-            (Puts (state self.old).files (state self.new).files path.now bytes.now) }
-        ensures doubt { OnErr result
-            (InDoubt (state self.old).files (state self.new).files path.now) }
-        ensures failed { OnErr result (Rose (state self.old).failures (state self.new).failures) }
-        ensures not_missing { IsErrOf result ShelfFault.Missing → ⊥ }
-        ensures fine { OnOk result ((state self.new).failures ≡ (state self.old).failures) }
-        ensures same_reads { (state self.new).failed_reads ≡ (state self.old).failed_reads };
+        ensures { TakesFile (state self.old) (state self.new) path.now bytes.now result };
 
     /// Is shown a reader, and counts it where a read of it failed.
     fn blame<R>(&mut self, reader: &Counted<R>)

@@ -2,8 +2,8 @@
 
 ghost use Rattle.std.specs.Prelude.{◌≡◌, None, Some, IfErr, IfOk, IsErrOf, OnErr, OnOk};
 ghost use Rattle.rh_bytes.specs.Counting.{Rose};
-ghost use Rattle.rh_shelf.specs.Shelf.{InDoubt, Puts, with_file};
-ghost use Rattle.rh_shelf.specs.Kinds.{failures_in, files_of};
+ghost use Rattle.rh_shelf.specs.Shelf.{TakesFile, with_file};
+ghost use Rattle.rh_shelf.specs.Kinds.{failures_in, files_of, in_memory};
 
 use crate::shelf::{Shelf, ShelfFault};
 use std::alloc::Global;
@@ -82,12 +82,8 @@ impl Shelf for MemShelf {
     }
 
     fn put(&mut self, alloc: Global, path: &str, bytes: &[u8]) -> Result<(), ShelfFault>
-        ensures put { OnOk result (Puts (Some (files_of self.old)) (Some (files_of self.new))
-            path.now bytes.now) }
-        ensures doubt { OnErr result (InDoubt (Some (files_of self.old))
-            (Some (files_of self.new)) path.now) }
-        ensures failed { OnErr result (Rose (failures_in self.old) (failures_in self.new)) }
-        ensures fine { OnOk result (failures_in self.new ≡ failures_in self.old) }
+        ensures takes { TakesFile (in_memory self.old) (in_memory self.new) path.now
+            bytes.now result }
         ensures refused { OnErr result (files_of self.new ≡ files_of self.old) }
         ensures memory { IfErr result (λ fault. fault ≡ ShelfFault.Memory) }
     {

@@ -1,8 +1,7 @@
 //! What a shelf is.
 
-ghost use Rattle.std.specs.Prelude.{◌≡◌, ◌⊎◌, ℕ, Option, IfOk, IsErrOf, OnErr, OnOk};
-ghost use Rattle.rh_bytes.specs.Counting.{Rose};
-ghost use Rattle.rh_shelf.specs.Shelf.{Files, Finds, InDoubt, Lacks, Puts};
+ghost use Rattle.std.specs.Prelude.{◌≡◌, ℕ, Option};
+ghost use Rattle.rh_shelf.specs.Shelf.{Files, GivesFile, TakesFile, uncounted};
 ghost use Rattle.rh_shelf.specs.declared.shelf.ShelfFault.TheVariants.{Memory};
 
 use std::alloc::{AllocError, AllocFailed, Global};
@@ -50,22 +49,12 @@ pub trait Shelf {
 
     /// A reader of the file's bytes, from the first on. Never `Write`.
     fn fetch(&mut self, alloc: Global, path: &str) -> Result<Self::Reader, ShelfFault>
-        ensures found { IfOk result (λ r.
-            Finds (files self.old) path.now (Self.Reader.remaining r)) }
-        ensures missing { IsErrOf result ShelfFault.Missing →
-            Lacks (files self.old) path.now ⊎ Rose (failures self.old) (failures self.new) }
-        ensures memory { IsErrOf result ShelfFault.Memory →
-            Rose (failures self.old) (failures self.new) }
-        ensures no_write { IsErrOf result ShelfFault.Write → ⊥ }
-        ensures fine { OnOk result (failures self.new ≡ failures self.old) }
-        ensures same_files { files self.new ≡ files self.old };
+        ensures { GivesFile Self.Reader.remaining (uncounted files failures self.old)
+            (uncounted files failures self.new) path.now result };
 
     /// Puts the bytes at the path, in place of what stood there. After a fault that path alone is
     /// in doubt. Never `Missing`.
     fn put(&mut self, alloc: Global, path: &str, bytes: &[u8]) -> Result<(), ShelfFault>
-        ensures put { OnOk result (Puts (files self.old) (files self.new) path.now bytes.now) }
-        ensures doubt { OnErr result (InDoubt (files self.old) (files self.new) path.now) }
-        ensures failed { OnErr result (Rose (failures self.old) (failures self.new)) }
-        ensures not_missing { IsErrOf result ShelfFault.Missing → ⊥ }
-        ensures fine { OnOk result (failures self.new ≡ failures self.old) };
+        ensures { TakesFile (uncounted files failures self.old)
+            (uncounted files failures self.new) path.now bytes.now result };
 }
