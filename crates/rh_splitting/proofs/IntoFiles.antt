@@ -4,9 +4,11 @@ use Rattle.std.specs.Prelude.{All, IfErr}
 use Rattle.std.specs.Io.KnownBytes.{Consumes, Keeps}
 use Rattle.std.proofs.KnownBytes.{Consumes-kept, Consumes-nil}
 use Rattle.std.proofs.lemmas.Option.{get_or_from_slice_get, slice_get_within}
+use Rattle.rh_bytes.specs.Counting.{Rose, failures_of, inner_of}
 use Rattle.rh_bytes.specs.Taking.{TakesAtMost}
+use Rattle.rh_bytes.specs.declared.counted.Counted.{Counted}
 use Rattle.rh_key_files.specs.Limits.{header_bytes}
-use Rattle.rh_key_files.specs.Reading.{IsReadFrom, TakesGoodKeys, header_at}
+use Rattle.rh_key_files.specs.Reading.{BeginsWithHeader, IsReadFrom, TakesGoodKeys, header_at}
 use Rattle.rh_key_files.proofs.Tested.{good_in_header, header_long}
 use Rattle.rh_layout.specs.declared.limits.TheConstants.{MAX_KEYS}
 use Rattle.rh_numbers.specs.Reading.{SayOnly}
@@ -20,9 +22,9 @@ use Rattle.rh_splitting.specs.declared.fault.SplitFault.TheVariants.{Keys, Text,
 use Rattle.rh_splitting.specs.declared.part.Part.{Part}
 use Rattle.rh_splitting.specs.declared.source.Source.{Source}
 use Rattle.rh_splitting.specs.declared.source.Source.TheVariants as sources
-use Rattle.rh_splitting.specs.IntoFiles.{HasFirst, IsNotSplit, IsOfWriting, SplitsList, told_of_list}
+use Rattle.rh_splitting.specs.IntoFiles.{HasFirst, IsNotSplit, IsOfFiles, IsOfWriting, SplitsList, told_of_list}
 use Rattle.rh_splitting.specs.Parts.{EachGot, IsBegun, IsFull}
-use Rattle.rh_splitting.specs.Splitting.{IsListFrom, SayThen, SplitsSource, TakesOfSource, unread}
+use Rattle.rh_splitting.specs.Splitting.{IsListFrom, ReadsSource, SayThen, SplitsSource, TakesOfSource, unread}
 use Rattle.rh_splitting.proofs.Given.{at_place}
 
 -- ---- nothing was taken yet
@@ -39,13 +41,13 @@ none_taken a b kept = Consumes-kept a a b [] (Consumes-nil a) kept
 nothing_said : SayOnly [] []
 nothing_said = (1, Start, λ rest. refl)
 
-pub takes_none : {X : Type 0} (source : Source) (a b : Option (List ℕ)) (r : Result X SplitFault) → Keeps a b → TakesOfSource source a b r
+takes_none : {X : Type 0} (source : Source) (a b : Option (List ℕ)) (r : Result X SplitFault) → Keeps a b → TakesOfSource source a b r
 takes_none sources.Text a b r kept = record { before = []; last = []; taken = none_taken a b kept; short = omega arith; keys = []; no_fault = nothing_said }
 takes_none sources.Keys a b r kept =
     let none : (n : ℕ) → TakesAtMost a b n = λ n. record { taken = []; consumed = none_taken a b kept; few = omega arith } in
     record { taken = none _; bounded = none _ }
 
-pub takes_later : {X : Type 0} (source : Source) (a b c : Option (List ℕ)) (r : Result X SplitFault) → Keeps a b → TakesOfSource source b c r → TakesOfSource source a c r
+takes_later : {X : Type 0} (source : Source) (a b c : Option (List ℕ)) (r : Result X SplitFault) → Keeps a b → TakesOfSource source b c r → TakesOfSource source a c r
 takes_later source a b c r kept takes = moved (λ x. TakesOfSource source x c r) a b (λ _. takes_none source None c r tt) kept takes
 
 no_line : (a b : Option (List ℕ)) → Keeps a b → SayThen a b [] Read
@@ -61,11 +63,45 @@ pub unread_stops : (source : Source) (a b : Option (List ℕ)) (count : ℕ) (fa
 unread_stops sources.Text a b count fault is kept = rw is (refl, [], no_line a b kept)
 unread_stops sources.Keys a b count fault is kept = no_fault_read a fault is b count
 
-pub no_key_tested : (a b : Option (List ℕ)) → Keeps a b → TakesGoodKeys header_at a b
+no_key_tested : (a b : Option (List ℕ)) → Keeps a b → TakesGoodKeys header_at a b
 no_key_tested a b kept = good_in_header header_at header_bytes a b header_long (record { taken = []; consumed = none_taken a b kept; few = omega arith })
 
-pub tested_later : (a b c : Option (List ℕ)) → Keeps a b → TakesGoodKeys header_at b c → TakesGoodKeys header_at a c
-tested_later a b c kept good = moved (λ x. TakesGoodKeys header_at x c) a b (λ _. tt) kept good
+-- nothing was read of a source that can be read
+pub none_read : {R : Type 0} (remaining : R → Option (List ℕ)) (source : Source) (old new : Counted R) → Keeps (remaining (inner_of old)) (remaining (inner_of new)) → failures_of new ≡ failures_of old
+    → ReadsSource {X = Unit {0}} remaining source old new (Ok tt)
+none_read remaining source old new kept same =
+    record { takes = takes_none source _ _ (Ok tt) kept; counts = record { rose = λ h. cc; stays = λ _. same }; tested = λ h. cc; memory = λ h. cc; not_too_many = λ h. cc }
+
+-- nor of one that cannot
+pub cannot_read : {R : Type 0} (remaining : R → Option (List ℕ)) (source : Source) (old new : Counted R) (fault : SplitFault) → fault ≡ unread source → Keeps (remaining (inner_of old)) (remaining (inner_of new))
+    → Rose (failures_of old) (failures_of new) → ReadsSource {X = Unit {0}} remaining source old new (Err fault)
+cannot_read remaining sources.Text old new fault is kept rose =
+    rw is (record { takes = takes_none {X = Unit {0}} sources.Text _ _ (Err (unread sources.Text)) kept; counts = record { rose = λ _. rose; stays = λ h. absurd h }; tested = λ h. cc; memory = λ h. cc; not_too_many = λ h. cc })
+cannot_read remaining sources.Keys old new fault is kept rose =
+    rw is (record { takes = takes_none {X = Unit {0}} sources.Keys _ _ (Err (unread sources.Keys)) kept; counts = record { rose = λ _. rose; stays = λ h. absurd h }; tested = λ _. no_key_tested _ _ kept; memory = λ h. cc; not_too_many = λ h. cc })
+
+-- what reads it from there on reads it from the first byte on
+pub reads_later : {R : Type 0} (remaining : R → Option (List ℕ)) (source : Source) (a b c : Counted R) (r : Result (Unit {0}) SplitFault) → Keeps (remaining (inner_of a)) (remaining (inner_of b)) → failures_of b ≡ failures_of a
+    → ReadsSource remaining source b c r → ReadsSource remaining source a c r
+reads_later remaining source a b c r kept same reads = record {
+  takes = takes_later source _ _ _ r kept reads.takes;
+  counts = record { rose = λ h. subst (λ n. Rose n (failures_of c)) same (reads.counts.rose h); stays = λ h. reads.counts.stays h ∙ same };
+  tested = λ h. moved (λ x. TakesGoodKeys header_at x (remaining (inner_of c))) (remaining (inner_of a)) (remaining (inner_of b)) (λ _. tt) kept (reads.tested h);
+  memory = λ h. moved BeginsWithHeader (remaining (inner_of a)) (remaining (inner_of b)) (λ _. tt) kept (reads.memory h);
+  not_too_many = reads.not_too_many;
+}
+
+-- and so does a fault of a file, which is none of the source
+pub reads_on : {R Y : Type 0} (remaining : R → Option (List ℕ)) (source : Source) (old new : Counted R) (r : Result Y FilesFault) → IfErr r IsOfFiles → ReadsSource {X = Unit {0}} remaining source old new (Ok tt)
+    → ReadsSource remaining source old new (told_of_list r)
+reads_on remaining source old new (Ok y) of reads = reads
+reads_on remaining source old new (Err (files.Split fault)) of reads = absurd of
+reads_on remaining source old new _ of reads = reads
+
+pub of_writing : {Y : Type 0} (r : Result Y FilesFault) → IfErr r IsOfWriting → IfErr r IsOfFiles
+of_writing (Ok y) of = tt
+of_writing (Err (files.Write part)) of = tt
+of_writing _ of = absurd of
 
 -- ---- why it is not split
 
@@ -130,8 +166,3 @@ whole_read {Y = Y} contents source a b c count old new x r of kept h = by_answer
     by_answer (Ok y) of = list
     by_answer (Err (files.Write part)) of = inr list
     by_answer _ of = absurd of
-
-pub whole_taken : {Y : Type 0} (source : Source) (a b c : Option (List ℕ)) (r : Result Y FilesFault) → IfErr r IsOfWriting → Keeps a b → TakesOfSource {X = Unit {0}} source b c (Ok tt) → TakesOfSource source a c (told_of_list r)
-whole_taken source a b c (Ok y) of kept takes = takes_later source a b c (Ok tt) kept takes
-whole_taken source a b c (Err (files.Write part)) of kept takes = takes_later source a b c (Ok tt) kept takes
-whole_taken source a b c _ of kept takes = absurd of

@@ -1,6 +1,8 @@
 -- What becomes of a list that is split.
-use Rattle.std.specs.Prelude.{◌≡◌, ℕ, ◌≤◌, List, [], ◌∷◌, ◌++◌, length, Option, Some, None, Result, Ok, Err}
+use Rattle.std.specs.Prelude.{◌≡◌, ℕ, ◌≤◌, List, [], ◌∷◌, ◌++◌, length, Option, Some, None, Result, Ok, Err, IsErrOf}
 use Rattle.std.specs.Io.KnownBytes.{Consumes}
+use Rattle.rh_bytes.specs.Counting.{Counts, inner_of}
+use Rattle.rh_bytes.specs.declared.counted.Counted.{Counted}
 use Rattle.rh_key_files.specs.Limits as in_files
 use Rattle.rh_key_files.specs.Limits.{TakesOfFile}
 use Rattle.rh_key_files.specs.Reading as files
@@ -126,3 +128,12 @@ NoReadFailedOf sources.Keys r = in_files.NoKeyReadFailed (fault_in_file r)
 abbrev pub unread : Source → SplitFault
 unread sources.Text = Text faults.Read
 unread sources.Keys = Keys key_faults.Read
+
+-- What a reader of it is read, and what is told of that: only so much is taken; a failed read is told only where one was counted, and
+-- none was counted where the call tells that. Of a key file a failed read comes behind good keys, and want of memory behind a header.
+pub record ReadsSource {R X : Type 0} (remaining : R → Option (List ℕ)) (source : Source) (old new : Counted R) (r : Result X SplitFault) : Type 0 where
+  pub takes : TakesOfSource source (remaining (inner_of old)) (remaining (inner_of new)) r
+  pub counts : Counts (IsErrOf r (unread source)) (NoReadFailedOf source r) old new
+  pub tested : IsErrOf r (Keys key_faults.Read) → files.TakesGoodKeys files.header_at (remaining (inner_of old)) (remaining (inner_of new))
+  pub memory : IsErrOf r (Keys key_faults.Memory) → files.BeginsWithHeader (remaining (inner_of old))
+  pub not_too_many : IsErrOf r (Text faults.TooMany) → ⊥

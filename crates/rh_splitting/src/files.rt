@@ -3,11 +3,11 @@
 ghost use Rattle.std.specs.Prelude.{◌≤◌, IfErr, length};
 ghost use Rattle.rh_splitting.specs.IntoFiles.{IsOfFiles};
 
-use crate::fault::{FilesFault, SplitFault};
+use crate::fault::FilesFault;
 use crate::part::Part;
 use crate::source::{Source, split_source, try_source};
 use rh_bytes::Counted;
-use rh_key_files::{KeyFault, write_header};
+use rh_key_files::write_header;
 use rh_shelf::create_beside;
 use std::alloc::Global;
 use std::fs::{self, Files, OpenFile};
@@ -37,14 +37,11 @@ pub struct PartFiles<'a, F> {
 }
 
 impl<'a, F> PartFiles<'a, F> {
-    ghost use Rattle.std.specs.Prelude.{◌≡◌};
-    ghost use Rattle.rh_splitting.specs.Files.{made_of, placed_of, whole_of};
+    ghost use Rattle.rh_splitting.specs.Files.{HasPlaced};
 
     /// No file was made yet.
     pub fn new(alloc: Global, files: &'a F) -> PartFiles<'a, F>
-        ensures made { made_of result ≡ 0 }
-        ensures whole { whole_of result ≡ 0 }
-        ensures placed { placed_of result ≡ 0 }
+        ensures { HasPlaced result 0 }
     {
         PartFiles {
             files,
@@ -57,16 +54,15 @@ impl<'a, F> PartFiles<'a, F> {
 
 impl<F: Files> PartFiles<'_, F> {
     ghost use Rattle.std.specs.Prelude.{◌≡◌, ◌≤◌, ◌<◌, ◌+◌, length, true};
-    ghost use Rattle.std.specs.Prelude.{All, IfErr, IfOk, IsErrOf, OnErr, OnOk};
-    ghost use Rattle.rh_bytes.specs.Counting.{Counts, inner_of};
-    ghost use Rattle.rh_key_files.specs.Reading.{BeginsWithHeader, TakesGoodKeys, header_at};
+    ghost use Rattle.std.specs.Prelude.{All, IfErr, IfOk, OnErr, OnOk};
+    ghost use Rattle.rh_bytes.specs.Counting.{inner_of};
     ghost use Rattle.rh_parts.specs.declared.part.TheConstants.{MAX_PARTS};
     ghost use Rattle.rh_splitting.specs.IntoFiles.{IsOfWriting};
     ghost use Rattle.rh_splitting.specs.IntoFiles.{SplitsList, told_of_list};
-    ghost use Rattle.rh_splitting.specs.Files.{MakesFiles, made_of, placed_of, whole_of};
+    ghost use Rattle.rh_splitting.specs.Files.{HasPlaced, MakesFiles, made_of, placed_of, whole_of};
     ghost use Rattle.rh_splitting.specs.Name.{is_name};
     ghost use Rattle.rh_splitting.specs.Parts.{IsBegun};
-    ghost use Rattle.rh_splitting.specs.Splitting.{NoReadFailedOf, TakesOfSource, unread};
+    ghost use Rattle.rh_splitting.specs.Splitting.{ReadsSource};
 
     /// Splits what the reader gives into so many parts, and writes the key file of each.
     ///
@@ -86,18 +82,8 @@ impl<F: Files> PartFiles<'_, F> {
         requires name { is_name name.now ≡ true }
         ensures split { SplitsList source (R.remaining (inner_of reader.old))
             (R.remaining (inner_of reader.new)) count result }
-        ensures takes { TakesOfSource source (R.remaining (inner_of reader.old))
-            (R.remaining (inner_of reader.new)) (told_of_list result) }
-        ensures counts { Counts (IsErrOf result (FilesFault.Split (unread source)))
-            (NoReadFailedOf source (told_of_list result)) reader.old reader.new }
-        ensures tested { IsErrOf result (FilesFault.Split (SplitFault.Keys KeyFault.Read)) →
-            TakesGoodKeys header_at (R.remaining (inner_of reader.old))
-            (R.remaining (inner_of reader.new)) }
-        ensures memory { IsErrOf result (FilesFault.Split (SplitFault.Keys KeyFault.Memory)) →
-            BeginsWithHeader (R.remaining (inner_of reader.old)) }
-        ensures made { OnOk result (made_of self.new ≡ count) }
-        ensures whole { OnOk result (whole_of self.new ≡ count) }
-        ensures placed { OnOk result (placed_of self.new ≡ count) }
+        ensures reads { ReadsSource R.remaining source reader.old reader.new (told_of_list result) }
+        ensures placed { OnOk result (HasPlaced self.new count) }
         ensures none_left { OnErr result (made_of self.new ≡ 0) }
     {
         let outcome = self.write_whole(alloc, reader, source, count, name);
@@ -120,18 +106,8 @@ impl<F: Files> PartFiles<'_, F> {
         requires none { made_of self.old ≡ 0 }
         ensures split { SplitsList source (R.remaining (inner_of reader.old))
             (R.remaining (inner_of reader.new)) count result }
-        ensures takes { TakesOfSource source (R.remaining (inner_of reader.old))
-            (R.remaining (inner_of reader.new)) (told_of_list result) }
-        ensures counts { Counts (IsErrOf result (FilesFault.Split (unread source)))
-            (NoReadFailedOf source (told_of_list result)) reader.old reader.new }
-        ensures tested { IsErrOf result (FilesFault.Split (SplitFault.Keys KeyFault.Read)) →
-            TakesGoodKeys header_at (R.remaining (inner_of reader.old))
-            (R.remaining (inner_of reader.new)) }
-        ensures memory { IsErrOf result (FilesFault.Split (SplitFault.Keys KeyFault.Memory)) →
-            BeginsWithHeader (R.remaining (inner_of reader.old)) }
-        ensures made { OnOk result (made_of self.new ≡ count) }
-        ensures whole { OnOk result (whole_of self.new ≡ count) }
-        ensures placed { OnOk result (placed_of self.new ≡ count) }
+        ensures reads { ReadsSource R.remaining source reader.old reader.new (told_of_list result) }
+        ensures placed { OnOk result (HasPlaced self.new count) }
     {
         // Where nothing can be read, no file and no folder is made.
         try_source(reader, source)?;

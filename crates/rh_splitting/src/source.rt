@@ -1,11 +1,10 @@
 //! Where the keys that are split come from.
 
-ghost use Rattle.std.specs.Prelude.{◌≡◌, ◌<◌, ◌≤◌, IfErr, IsErrOf, OnErr, OnOk, length};
+ghost use Rattle.std.specs.Prelude.{◌≡◌, ◌<◌, ◌≤◌, IfErr, OnErr, OnOk, length};
 ghost use Rattle.std.specs.Io.KnownBytes.{Keeps};
 ghost use Rattle.rh_bytes.specs.Counting.{Rose, failures_of, inner_of};
 ghost use Rattle.rh_parts.specs.declared.part.TheConstants.{MAX_PARTS};
-ghost use Rattle.rh_key_files.specs.Reading.{BeginsWithHeader, TakesGoodKeys, header_at};
-ghost use Rattle.rh_splitting.specs.Splitting.{NoReadFailedOf, SplitsSource, TakesOfSource, unread};
+ghost use Rattle.rh_splitting.specs.Splitting.{ReadsSource, SplitsSource, unread};
 
 use crate::fault::SplitFault;
 use crate::part::Part;
@@ -52,19 +51,7 @@ pub fn split_source<R: Read, W: Write>(
     requires few { length parts.old ≤ MAX_PARTS }
     ensures split { SplitsSource source (R.remaining (inner_of reader.old))
         (R.remaining (inner_of reader.new)) W.contents parts.old parts.new result }
-    ensures takes { TakesOfSource source (R.remaining (inner_of reader.old))
-        (R.remaining (inner_of reader.new)) result }
-    ensures not_too_many { IsErrOf result (SplitFault.Text TextFault.TooMany) → ⊥ }
-    ensures text_read { IsErrOf result (SplitFault.Text TextFault.Read) →
-        Rose (failures_of reader.old) (failures_of reader.new) }
-    ensures keys_read { IsErrOf result (SplitFault.Keys KeyFault.Read) →
-        Rose (failures_of reader.old) (failures_of reader.new) }
-    ensures tested { IsErrOf result (SplitFault.Keys KeyFault.Read) → TakesGoodKeys header_at
-        (R.remaining (inner_of reader.old)) (R.remaining (inner_of reader.new)) }
-    ensures memory { IsErrOf result (SplitFault.Keys KeyFault.Memory) →
-        BeginsWithHeader (R.remaining (inner_of reader.old)) }
-    ensures fine { NoReadFailedOf source result →
-        failures_of reader.new ≡ failures_of reader.old }
+    ensures reads { ReadsSource R.remaining source reader.old reader.new result }
 {
     match source {
         Source::Text => split_text(alloc, reader, parts),

@@ -3,15 +3,14 @@
 ghost use Rattle.std.specs.Prelude.{◌<◌, ◌≤◌, IsErrOf, length};
 ghost use Rattle.rh_bytes.specs.Counting.{Counts, inner_of};
 ghost use Rattle.rh_parts.specs.declared.part.TheConstants.{MAX_PARTS};
-ghost use Rattle.rh_key_files.specs.Limits.{NoKeyReadFailed, TakesOfFile};
-ghost use Rattle.rh_key_files.specs.Reading.{BeginsWithHeader, TakesGoodKeys, header_at};
 ghost use Rattle.rh_splitting.specs.Splitting as splits;
-ghost use Rattle.rh_splitting.specs.Splitting.{Puts, Splits, SplitsFile, TakesText, fault_in_file};
+ghost use Rattle.rh_splitting.specs.Splitting.{Puts, ReadsSource, Splits, SplitsFile, TakesText};
+ghost use Rattle.rh_splitting.specs.declared.source.Source.TheVariants as sources;
 
 use crate::fault::SplitFault;
 use crate::part::{Part, PartFault};
 use rh_bytes::Counted;
-use rh_key_files::{KeyFault, read_keys};
+use rh_key_files::read_keys;
 use rh_numbers::{MAX_READS, Reading, TextFault};
 use rh_parts::part_of;
 use std::alloc::Global;
@@ -77,14 +76,7 @@ pub fn split_file<R: Read, W: Write>(
     requires few { length parts.old ≤ MAX_PARTS }
     ensures split { SplitsFile (R.remaining (inner_of reader.old))
         (R.remaining (inner_of reader.new)) W.contents parts.old parts.new result }
-    ensures takes { TakesOfFile (R.remaining (inner_of reader.old))
-        (R.remaining (inner_of reader.new)) (fault_in_file result) }
-    ensures tested { IsErrOf result (SplitFault.Keys KeyFault.Read) → TakesGoodKeys header_at
-        (R.remaining (inner_of reader.old)) (R.remaining (inner_of reader.new)) }
-    ensures counts { Counts (IsErrOf result (SplitFault.Keys KeyFault.Read))
-        (NoKeyReadFailed (fault_in_file result)) reader.old reader.new }
-    ensures memory { IsErrOf result (SplitFault.Keys KeyFault.Memory) →
-        BeginsWithHeader (R.remaining (inner_of reader.old)) }
+    ensures reads { ReadsSource R.remaining sources.Keys reader.old reader.new result }
 {
     let keys = read_keys(alloc, reader)?;
     split_keys(&keys, parts)
