@@ -298,8 +298,8 @@ fn a_title_stands_above_and_beside_the_legend(rt: HostRuntime) -> Result<(), Fai
     let text = drawn(rt.alloc(), &title, &[], &[], ALL)?;
     for piece in [
         "<text x=\"12\" y=\"18\" class=\"title\">first &lt;</text>",
-        "<text x=\"606\" y=\"18\" class=\"title\">second!</text>",
-        "<text x=\"606\" y=\"30\" class=\"title\">third 3</text>",
+        "<text x=\"546\" y=\"18\" class=\"title\">second!</text>",
+        "<text x=\"546\" y=\"30\" class=\"title\">third 3</text>",
     ] {
         assert_eq!(rt; occurrences(&text, piece), 1);
     }
@@ -395,7 +395,7 @@ fn an_act_that_changes_nothing_says_so(rt: HostRuntime) -> Result<(), Fail> {
 #[test]
 fn a_play_with_no_step_is_drawn(rt: HostRuntime) -> Result<(), Fail> {
     let text = drawn(rt.alloc(), &[], &[], &[], ALL)?;
-    assert!(rt; text.starts_with(b"<svg xmlns=\"http://www.w3.org/2000/svg\" width=\"612\" "));
+    assert!(rt; text.starts_with(b"<svg xmlns=\"http://www.w3.org/2000/svg\" width=\"540\" "));
     assert!(rt; text.ends_with(b"</svg>"));
     assert_eq!(rt; occurrences(&text, "<title>"), 0);
     Ok(())
