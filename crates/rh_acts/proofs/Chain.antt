@@ -16,7 +16,7 @@ use Rattle.rh_acts.specs.KeyActs.{IsInsertAct, IsRemoveAct, IsRemovalAct}
 use Rattle.rh_acts.specs.Moments.{Grown, Shrunk}
 use Rattle.rh_acts.proofs.ActLemmas.{contains_head, contains_tail, contains_cases, contains_none, all_meet_take, contains_take}
 use Rattle.rh_acts.proofs.OneAct.{fresh_by_insert, insert_act, remove_act, absence_act}
-use Rattle.rh_acts.proofs.Told.{remove_changes, absence_changes}
+use Rattle.rh_acts.proofs.Changing.{remove_changes, absence_changes}
 use Rattle.rh_acts.proofs.FoldLemmas.{len_new, len_part, len_out, then_is, else_is, all_kept, all_there}
 
 -- Two layouts of the same cells have the same set.

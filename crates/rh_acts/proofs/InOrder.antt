@@ -29,21 +29,21 @@ all_by_first [] m h = absurd (contains_none m h)
 all_by_first (a ∷ rest) m h = elim (contains_cases (by_first a) m (map by_first rest) h) [ inl is ↦ subst (λ (x : Made). x.worker < 1) is (omega arith) | inr later ↦ all_by_first rest m later ]
 
 pub acts_are_a_phase : ActsAreAPhase
-acts_are_a_phase kind b opening S keys acts layout meet room told done =
+acts_are_a_phase kind b opening S keys acts layout meet room answers done =
     let made = map by_first acts in
     let whole : keys ++ [] ≡ keys = append-nil keys in
     let all = acts_by_first acts in
-    let got = phase_is_of_joined_lists kind b opening S (keys ∷ []) made ([] ∷ []) (told ∷ []) layout
+    let got = phase_is_of_joined_lists kind b opening S (keys ∷ []) made ([] ∷ []) (answers ∷ []) layout
     (subst (λ (xs : List Act). AllMeet xs opening) (sym all) meet)
     (all_by_first acts)
     (subst (λ (ks : List ℕ). LeavesRoom kind b S ks) (sym whole) room)
     (λ w l r h. absurd (no_reads w r h))
     (λ w l. done_at w (omega arith)) in (
       subst (λ (xs : List Act). Layout (apply_acts xs opening) b (set_after kind S keys)) all (subst (λ (ks : List ℕ). Layout (apply_acts (acts_of made) opening) b (set_after kind S ks)) whole got.0),
-      sym (sum-none (counted kind told)) ∙ got.1 ∙ ap (tally_of kind S) whole,
+      sym (sum-none (counted kind answers)) ∙ got.1 ∙ ap (tally_of kind S) whole,
     )
   where
-    done_at : (w : ℕ) → w ≡ 0 → IsDone kind b (piece ([] ∷ []) w) (piece (keys ∷ []) w) (own w (map by_first acts)) (piece (told ∷ []) w)
+    done_at : (w : ℕ) → w ≡ 0 → IsDone kind b (piece ([] ∷ []) w) (piece (keys ∷ []) w) (own w (map by_first acts)) (piece (answers ∷ []) w)
     done_at w e = rw (e, own_by_first acts) done
 
     no_reads : (w : ℕ) (r : Kept) → Contains (piece ([] ∷ []) w) r → ⊥

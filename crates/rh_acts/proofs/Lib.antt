@@ -4,7 +4,7 @@
 -- another order (SharedLaws).
 -- ActLemmas: what an act leaves in each cell.
 -- OneAct: what one act makes of a layout.
--- Told: which acts change a cell, and that so many keys are told as changed.
+-- Changing: which acts change a cell, and that the answers count them.
 -- Chain: what a list of acts makes of a layout.
 -- ListLemmas: lists of acts with more at their end.
 -- DoneLemmas: what a worker's done keys say of its acts, and how they grow.
@@ -21,7 +21,7 @@
 
 pub mod ActLemmas
 pub mod OneAct
-pub mod Told
+pub mod Changing
 pub mod DoneLemmas
 pub mod FoldLemmas
 pub mod Chain

@@ -38,36 +38,36 @@ first_act first a is = subst (λ (ys : List Act). Contains ys a) (sym is) (conta
 
 -- ---- phases that change the set
 
-module _ (b : ℕ) (opening : List ℕ) (S : Keys) (pieces : List (List ℕ)) (made : List Made) (reads : List (List Kept)) (told : List (List Bool)) (layout : Layout opening b S) (meet : AllMeet (acts_of made) opening) (owned : AreOf (length pieces) made) where
+module _ (b : ℕ) (opening : List ℕ) (S : Keys) (pieces : List (List ℕ)) (made : List Made) (reads : List (List Kept)) (answers : List (List Bool)) (layout : Layout opening b S) (meet : AllMeet (acts_of made) opening) (owned : AreOf (length pieces) made) where
   -- each act does a key of its worker
-  does_a_key : (kind : Kind) → ((w : ℕ) → w < length pieces → IsDone kind b (piece reads w) (piece pieces w) (own w made) (piece told w)) → (a : Act) → Contains (acts_of made) a → (k : ℕ) × Contains (joined pieces) k × (so : Bool) × Does kind b k so a
+  does_a_key : (kind : Kind) → ((w : ℕ) → w < length pieces → IsDone kind b (piece reads w) (piece pieces w) (own w made) (piece answers w)) → (a : Act) → Contains (acts_of made) a → (k : ℕ) × Contains (joined pieces) k × (so : Bool) × Does kind b k so a
   does_a_key kind done a h =
       let m = of_its_own made a h in
       let w = (m.0).worker in
       let l = owned m.0 m.1 in
-      let got = done_act kind b (piece reads w) (piece pieces w) (own w made) (piece told w) (done w l) a m.2 in
+      let got = done_act kind b (piece reads w) (piece pieces w) (own w made) (piece answers w) (done w l) a m.2 in
       (got.0, in_joined pieces w got.0 l got.1, got.3, act_of_key kind b (piece reads w) got.0 got.2 got.3 a got.4 got.5)
 
-  pub phase_inserted : set.len (set_after Insert S (joined pieces)) < 2 ^ b → ((w : ℕ) → w < length pieces → WereTrue opening (acts_of made) (piece reads w)) → ((w : ℕ) → w < length pieces → IsDone Insert b (piece reads w) (piece pieces w) (own w made) (piece told w)) → Layout (apply_acts (acts_of made) opening) b (set_after Insert S (joined pieces)) × (set.len (set_after Insert S (joined pieces)) ≡ set.len S + length (acts_of made))
+  pub phase_inserted : set.len (set_after Insert S (joined pieces)) < 2 ^ b → ((w : ℕ) → w < length pieces → WereTrue opening (acts_of made) (piece reads w)) → ((w : ℕ) → w < length pieces → IsDone Insert b (piece reads w) (piece pieces w) (own w made) (piece answers w)) → Layout (apply_acts (acts_of made) opening) b (set_after Insert S (joined pieces)) × (set.len (set_after Insert S (joined pieces)) ≡ set.len S + length (acts_of made))
   phase_inserted room were done =
       all_inserted b opening S (joined pieces) (acts_of made) layout meet room
       (λ k h.
       let at_w = from_joined pieces k h in
       let w = at_w.0 in
-      let one = done_key Insert b (piece reads w) (piece pieces w) (own w made) (piece told w) (done w at_w.1) k at_w.2 in
+      let one = done_key Insert b (piece reads w) (piece pieces w) (own w made) (piece answers w) (done w at_w.1) k at_w.2 in
       elim one.2 [
         | inl by ↦ inl (by.act, own_among w made by.act (one.3 by.act (first_act one.0 by.act by.only)), does_insert b k one.1 by.act by.does)
         | inr by ↦ let at = by.tells.1 in inr (at.0, were w at_w.1 (kept at.0 (cell_of k)) at.1)
       ])
       (λ a h. let got = does_a_key Insert done a h in (got.0, got.1, does_insert b got.0 got.2 a got.3))
 
-  pub phase_removed : ((w : ℕ) → w < length pieces → IsDone Remove b (piece reads w) (piece pieces w) (own w made) (piece told w)) → Layout (apply_acts (acts_of made) opening) b (set_after Remove S (joined pieces)) × (set.len (set_after Remove S (joined pieces)) + count_by changes (acts_of made) ≡ set.len S)
+  pub phase_removed : ((w : ℕ) → w < length pieces → IsDone Remove b (piece reads w) (piece pieces w) (own w made) (piece answers w)) → Layout (apply_acts (acts_of made) opening) b (set_after Remove S (joined pieces)) × (set.len (set_after Remove S (joined pieces)) + count_by changes (acts_of made) ≡ set.len S)
   phase_removed done =
       all_removed b opening S (joined pieces) (acts_of made) layout meet
       (λ k h.
       let at_w = from_joined pieces k h in
       let w = at_w.0 in
-      let one = done_key Remove b (piece reads w) (piece pieces w) (own w made) (piece told w) (done w at_w.1) k at_w.2 in
+      let one = done_key Remove b (piece reads w) (piece pieces w) (own w made) (piece answers w) (done w at_w.1) k at_w.2 in
       elim one.2 [
         | inl by ↦ (by.act, own_among w made by.act (one.3 by.act (first_act one.0 by.act by.only)), does_removal b k one.1 by.act by.does)
         | inr by ↦ absurd by.tells
@@ -80,9 +80,9 @@ no_act : (b : ℕ) (reads : List Kept) (k : ℕ) (first : List Act) (so : Bool) 
 no_act b reads k first so (inl by) = absurd by.does
 no_act b reads k first so (inr by) = by.none
 
-pub ask_has_no_act : (b : ℕ) (reads : List Kept) (keys : List ℕ) (acts : List Act) (told : List Bool) → IsDone Ask b reads keys acts told → acts ≡ []
-ask_has_no_act b reads [] acts told done = done.0
-ask_has_no_act b reads (k ∷ keys) acts told done =
+pub ask_has_no_act : (b : ℕ) (reads : List Kept) (keys : List ℕ) (acts : List Act) (answers : List Bool) → IsDone Ask b reads keys acts answers → acts ≡ []
+ask_has_no_act b reads [] acts answers done = done.0
+ask_has_no_act b reads (k ∷ keys) acts answers done =
     done.4 ∙ ap (λ (ys : List Act). ys ++ done.1) (no_act b reads k done.0 done.2 done.6) ∙ ask_has_no_act b reads keys done.1 done.3 done.7
 
 -- with no act, what was read is what the opening cells held
@@ -110,14 +110,14 @@ key_asked : (b : ℕ) (opening : List ℕ) (S : Keys) (reads : List Kept) (k : �
 key_asked b opening S reads k first so layout held (inl by) = absurd by.does
 key_asked b opening S reads k first so layout held (inr by) = asked_right b opening S reads k so layout held by.tells
 
-pub piece_asked : (b : ℕ) (opening : List ℕ) (S : Keys) (reads : List Kept) (keys : List ℕ) (acts : List Act) (told : List Bool) → Layout opening b S → AreHeld opening reads → IsDone Ask b reads keys acts told → told ≡ looked_up S keys
-piece_asked b opening S reads [] acts told layout held done = done.1
-piece_asked b opening S reads (k ∷ keys) acts told layout held done =
+pub piece_asked : (b : ℕ) (opening : List ℕ) (S : Keys) (reads : List Kept) (keys : List ℕ) (acts : List Act) (answers : List Bool) → Layout opening b S → AreHeld opening reads → IsDone Ask b reads keys acts answers → answers ≡ looked_up S keys
+piece_asked b opening S reads [] acts answers layout held done = done.1
+piece_asked b opening S reads (k ∷ keys) acts answers layout held done =
     let head : done.2 ≡ contains S k = key_asked b opening S reads k done.0 done.2 layout held done.6 in
     let tail : done.3 ≡ looked_up S keys = piece_asked b opening S reads keys done.1 done.3 layout held done.7 in
     done.5 ∙ ap (λ (x : Bool). x ∷ done.3) head ∙ ap (λ (ys : List Bool). contains S k ∷ ys) tail
 
-pub joined_look_ups : (S : Keys) (pieces : List (List ℕ)) (told : List (List Bool)) → length told ≡ length pieces → ((w : ℕ) → w < length pieces → piece told w ≡ looked_up S (piece pieces w)) → joined told ≡ looked_up S (joined pieces)
+pub joined_look_ups : (S : Keys) (pieces : List (List ℕ)) (answers : List (List Bool)) → length answers ≡ length pieces → ((w : ℕ) → w < length pieces → piece answers w ≡ looked_up S (piece pieces w)) → joined answers ≡ looked_up S (joined pieces)
 joined_look_ups S [] [] size are = refl
 joined_look_ups S [] (x ∷ xs) size are = absurd (omega (arith, size))
 joined_look_ups S (p ∷ ps) [] size are = absurd (omega (arith, size))

@@ -1,4 +1,4 @@
--- How a worker does the keys of its list, by acts of its own and by words that it read, and what it is told of each.
+-- How a worker does the keys of its list, by acts of its own and by words that it read, and the answer of each.
 use Rattle.std.specs.Prelude.{ℕ, ◌^◌, ◌<◌, ◌≤◌, ◌≡◌, ◌⊎◌, List, [], ◌∷◌, ◌++◌, length, slice_index, Bool, true, false}
 use Rattle.std.specs.List.{Contains}
 use Rattle.rh_layout.specs.Round.{cell_ahead}
@@ -40,29 +40,29 @@ Does Remove b k false act = IsAbsenceAct b k act
 Does Ask b k changes act = ⊥
 
 -- What was read tells it: the key that is to be inserted is there, or the key that is asked for is there or is not.
-abbrev pub IsTold : Kind → (b : ℕ) (reads : List Kept) (k : ℕ) (told : Bool) → Type 0
-IsTold Insert b reads k told = (told ≡ false) × ((c : ℕ) × Contains reads (kept c (cell_of k)))
-IsTold Remove b reads k told = ⊥
-IsTold Ask b reads k told = IsAsked b reads k told
+abbrev pub IsAsRead : Kind → (b : ℕ) (reads : List Kept) (k : ℕ) (answer : Bool) → Type 0
+IsAsRead Insert b reads k answer = (answer ≡ false) × ((c : ℕ) × Contains reads (kept c (cell_of k)))
+IsAsRead Remove b reads k answer = ⊥
+IsAsRead Ask b reads k answer = IsAsked b reads k answer
 
--- A key is done by one own act, and it is told whether this changes a cell.
-pub record IsByAct (kind : Kind) (b k : ℕ) (acts : List Act) (told : Bool) : Type 0 where
+-- A key is done by one own act, and its answer is whether this changes a cell.
+pub record IsByAct (kind : Kind) (b k : ℕ) (acts : List Act) (answer : Bool) : Type 0 where
   pub act : Act
   pub only : acts ≡ act ∷ []
-  pub does : Does kind b k told act
+  pub does : Does kind b k answer act
 
 -- A key is done by no act: what was read tells it.
-pub record IsByRead (kind : Kind) (b : ℕ) (reads : List Kept) (k : ℕ) (acts : List Act) (told : Bool) : Type 0 where
+pub record IsByRead (kind : Kind) (b : ℕ) (reads : List Kept) (k : ℕ) (acts : List Act) (answer : Bool) : Type 0 where
   pub none : acts ≡ []
-  pub tells : IsTold kind b reads k told
+  pub tells : IsAsRead kind b reads k answer
 
--- How one key is done, and what is told of it, which is whether it was added, removed or found.
-abbrev pub KeyDone : Kind → (b : ℕ) (reads : List Kept) (k : ℕ) (acts : List Act) (told : Bool) → Type 0
-KeyDone kind b reads k acts told = IsByAct kind b k acts told ⊎ IsByRead kind b reads k acts told
+-- How one key is done, and its answer, which is whether it was added, removed or found.
+abbrev pub KeyDone : Kind → (b : ℕ) (reads : List Kept) (k : ℕ) (acts : List Act) (answer : Bool) → Type 0
+KeyDone kind b reads k acts answer = IsByAct kind b k acts answer ⊎ IsByRead kind b reads k acts answer
 
--- each key in turn, by the next own acts, and with what is told next
-abbrev pub IsDone : Kind → (b : ℕ) (reads : List Kept) (keys : List ℕ) (acts : List Act) (told : List Bool) → Type 0
-IsDone kind b reads [] acts told = (acts ≡ []) × (told ≡ [])
-IsDone kind b reads (k ∷ keys) acts told =
-    (first rest : List Act) × (so : Bool) × (later : List Bool) × (acts ≡ first ++ rest) × (told ≡ so ∷ later)
+-- each key in turn, by the next own acts, and with the next answer
+abbrev pub IsDone : Kind → (b : ℕ) (reads : List Kept) (keys : List ℕ) (acts : List Act) (answers : List Bool) → Type 0
+IsDone kind b reads [] acts answers = (acts ≡ []) × (answers ≡ [])
+IsDone kind b reads (k ∷ keys) acts answers =
+    (first rest : List Act) × (so : Bool) × (later : List Bool) × (acts ≡ first ++ rest) × (answers ≡ so ∷ later)
     × KeyDone kind b reads k first so × IsDone kind b reads keys rest later

@@ -30,8 +30,8 @@ AbsenceActChangesNothing = (b k : ℕ) (act : Act) (cells : List ℕ) (S : Keys)
     → (contains S k ≡ false) × (apply_act act cells ≡ cells)
 
 -- an act that puts a key in or takes one out changes a cell, and one that shows that it is not there does not
-abbrev pub ActsAreTold : Type 0
-ActsAreTold = (kind : Kind) (b k : ℕ) (told : Bool) (act : Act) → Does kind b k told act → changes act ≡ told
+abbrev pub AnswerIsChange : Type 0
+AnswerIsChange = (kind : Kind) (b k : ℕ) (answer : Bool) (act : Act) → Does kind b k answer act → changes act ≡ answer
 
 -- ---- lists of acts
 
@@ -71,29 +71,29 @@ RemovalsShrink = (b : ℕ) (opening : List ℕ) (S : Keys) (acts : List Act) →
 -- The acts so far are a phase over their keys, in the order of the acts: each key is done by an act, and none by a read.
 abbrev pub ActsAreAPhase : Type 0
 ActsAreAPhase = (kind : Kind) (b : ℕ) (opening : List ℕ) (S : Keys) (keys : List ℕ) (acts : List Act) → Layout opening b S → AllMeet acts opening
-    → LeavesRoom kind b S keys → (told : List Bool) → IsDone kind b [] keys acts told
-    → Layout (apply_acts acts opening) b (set_after kind S keys) × (counted kind told ≡ tally_of kind S keys)
+    → LeavesRoom kind b S keys → (answers : List Bool) → IsDone kind b [] keys acts answers
+    → Layout (apply_acts acts opening) b (set_after kind S keys) × (counted kind answers ≡ tally_of kind S keys)
 
 -- ---- a finished phase
 
 -- What the workers make of their lists is what one worker makes of the joined lists: the layout of the same set, and the
 -- same tally.
 abbrev pub PhaseIsOfJoinedLists : Type 0
-PhaseIsOfJoinedLists = (kind : Kind) (b : ℕ) (opening : List ℕ) (S : Keys) (pieces : List (List ℕ)) (made : List Made) (reads : List (List Kept)) (told : List (List Bool))
+PhaseIsOfJoinedLists = (kind : Kind) (b : ℕ) (opening : List ℕ) (S : Keys) (pieces : List (List ℕ)) (made : List Made) (reads : List (List Kept)) (answers : List (List Bool))
     → Layout opening b S → AllMeet (acts_of made) opening → AreOf (length pieces) made → LeavesRoom kind b S (joined pieces)
     → ((w : ℕ) → w < length pieces → WereTrue opening (acts_of made) (piece reads w))
-    → ((w : ℕ) → w < length pieces → IsDone kind b (piece reads w) (piece pieces w) (own w made) (piece told w))
+    → ((w : ℕ) → w < length pieces → IsDone kind b (piece reads w) (piece pieces w) (own w made) (piece answers w))
     → Layout (apply_acts (acts_of made) opening) b (set_after kind S (joined pieces))
-    × (sum_of_all (λ w. counted kind (piece told w)) (length pieces) ≡ tally_of kind S (joined pieces))
+    × (sum_of_all (λ w. counted kind (piece answers w)) (length pieces) ≡ tally_of kind S (joined pieces))
 
--- Where keys are asked for there is no act, and what is told are the look-ups.
+-- Where keys are asked for there is no act, and the answers are the look-ups.
 abbrev pub AnswersAreLookUps : Type 0
-AnswersAreLookUps = (b : ℕ) (opening : List ℕ) (S : Keys) (pieces : List (List ℕ)) (made : List Made) (reads : List (List Kept)) (told : List (List Bool))
+AnswersAreLookUps = (b : ℕ) (opening : List ℕ) (S : Keys) (pieces : List (List ℕ)) (made : List Made) (reads : List (List Kept)) (answers : List (List Bool))
     → Layout opening b S → AreOf (length pieces) made
     → ((w : ℕ) → w < length pieces → WereTrue opening (acts_of made) (piece reads w))
-    → ((w : ℕ) → w < length pieces → IsDone Ask b (piece reads w) (piece pieces w) (own w made) (piece told w))
-    → (made ≡ []) × ((w : ℕ) → w < length pieces → piece told w ≡ looked_up S (piece pieces w))
-    × (length told ≡ length pieces → joined told ≡ looked_up S (joined pieces))
+    → ((w : ℕ) → w < length pieces → IsDone Ask b (piece reads w) (piece pieces w) (own w made) (piece answers w))
+    → (made ≡ []) × ((w : ℕ) → w < length pieces → piece answers w ≡ looked_up S (piece pieces w))
+    × (length answers ≡ length pieces → joined answers ≡ looked_up S (joined pieces))
 
 -- ---- lists in rounds, and a shared list
 
@@ -114,19 +114,18 @@ SharedListIsOneList = (kind : Kind) (S : Keys) (keys : List ℕ) (claims : List 
 -- ---- how the lists of done keys grow
 
 abbrev pub OneMoreIsDone : Type 0
-OneMoreIsDone = (kind : Kind) (b : ℕ) (reads : List Kept) (keys : List ℕ) (k : ℕ) (acts first : List Act) (told : List Bool) (so : Bool)
-    → IsDone kind b reads keys acts told → KeyDone kind b reads k first so
-    → IsDone kind b reads (keys ++ k ∷ []) (acts ++ first) (told ++ so ∷ [])
+OneMoreIsDone = (kind : Kind) (b : ℕ) (reads : List Kept) (keys : List ℕ) (k : ℕ) (acts first : List Act) (answers : List Bool) (so : Bool)
+    → IsDone kind b reads keys acts answers → KeyDone kind b reads k first so
+    → IsDone kind b reads (keys ++ k ∷ []) (acts ++ first) (answers ++ so ∷ [])
 
 -- what is done by some reads is done by more
 abbrev pub MoreIsRead : Type 0
-MoreIsRead = (kind : Kind) (b : ℕ) (reads more : List Kept) (keys : List ℕ) (acts : List Act) (told : List Bool)
-    → ((r : Kept) → Contains reads r → Contains more r) → IsDone kind b reads keys acts told → IsDone kind b more keys acts told
+MoreIsRead = (kind : Kind) (b : ℕ) (reads more : List Kept) (keys : List ℕ) (acts : List Act) (answers : List Bool)
+    → ((r : Kept) → Contains reads r → Contains more r) → IsDone kind b reads keys acts answers → IsDone kind b more keys acts answers
 
--- ---- what is told of the keys that are done
+-- ---- the answers of the keys that are done
 
--- Of each key something is told. Where keys are changed, it is told of as many that they were as there are acts that change a
--- cell.
-abbrev pub ToldIsChanged : Type 0
-ToldIsChanged = (kind : Kind) (b : ℕ) (reads : List Kept) (keys : List ℕ) (acts : List Act) (told : List Bool) → IsDone kind b reads keys acts told
-    → (length told ≡ length keys) × (kind ≢ Ask → how_many told ≡ count_by changes acts)
+-- Each key has an answer. Where keys are changed, as many answers are yes as there are acts that change a cell.
+abbrev pub AnswersCountChanges : Type 0
+AnswersCountChanges = (kind : Kind) (b : ℕ) (reads : List Kept) (keys : List ℕ) (acts : List Act) (answers : List Bool) → IsDone kind b reads keys acts answers
+    → (length answers ≡ length keys) × (kind ≢ Ask → how_many answers ≡ count_by changes acts)

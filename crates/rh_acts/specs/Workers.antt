@@ -35,13 +35,13 @@ joined (piece ∷ pieces) = piece ++ joined pieces
 abbrev pub piece : {X : Type 0} → List (List X) → (w : ℕ) → List X
 piece pieces w = slice_index_or pieces w []
 
--- of how many keys it was told that they were added, removed or found
-abbrev pub how_many : (told : List Bool) → ℕ
-how_many told = count_by (λ so. so) told
+-- how many keys were added, removed or found
+abbrev pub how_many : (answers : List Bool) → ℕ
+how_many answers = count_by (λ so. so) answers
 
--- what a worker counts, which was told this of its keys
-abbrev pub counted : Kind → (told : List Bool) → Tally
-counted kind told = tally_by kind (length told) (how_many told)
+-- what a worker counts whose keys have these answers
+abbrev pub counted : Kind → (answers : List Bool) → Tally
+counted kind answers = tally_by kind (length answers) (how_many answers)
 
 -- the tallies of the first n workers, joined
 abbrev pub sum_of_all : (tally : ℕ → Tally) (n : ℕ) → Tally

@@ -1,19 +1,19 @@
 //! Laws of acts. They do nothing when they run.
 
 ghost use Rattle.rh_acts.specs.Laws.{InsertActPutsIn, RemoveActTakesOut};
-ghost use Rattle.rh_acts.specs.Laws.{AbsenceActChangesNothing, ActsAreTold};
+ghost use Rattle.rh_acts.specs.Laws.{AbsenceActChangesNothing, AnswerIsChange};
 ghost use Rattle.rh_acts.specs.Laws.{MeetOneByOne, OneMoreAct, OneMoreIsOwn, ReadsStayTrue};
 ghost use Rattle.rh_acts.specs.Laws.{InsertionsGrow, RemovalsShrink, ActsAreAPhase};
 ghost use Rattle.rh_acts.specs.Laws.{PhaseIsOfJoinedLists, AnswersAreLookUps};
 ghost use Rattle.rh_acts.specs.Laws.{RoundsAreOnePhase, SharedListIsOneList};
-ghost use Rattle.rh_acts.specs.Laws.{OneMoreIsDone, MoreIsRead, ToldIsChanged};
+ghost use Rattle.rh_acts.specs.Laws.{OneMoreIsDone, MoreIsRead, AnswersCountChanges};
 
 /// One act, on a layout of a set that it meets, leaves the layout of the changed set.
 pub fn one_act()
     ensures insert { InsertActPutsIn }
     ensures remove { RemoveActTakesOut }
     ensures absence { AbsenceActChangesNothing }
-    ensures told { ActsAreTold }
+    ensures is_change { AnswerIsChange }
 {}
 
 /// How a list of acts grows: what becomes of the cells, of each worker's own acts, and of the reads
@@ -48,11 +48,10 @@ pub fn rounds_and_shares()
     ensures shares { SharedListIsOneList }
 {}
 
-/// What a worker has done of its list grows key by key, and stays done when more was read. Of as
-/// many keys it is told that they were added or removed as there are acts of it that changed a
-/// cell.
+/// What a worker has done of its list grows key by key, and stays done when more was read. As many
+/// keys were added or removed as there are acts of it that changed a cell.
 pub fn done_keys()
     ensures one_more { OneMoreIsDone }
     ensures more_read { MoreIsRead }
-    ensures told { ToldIsChanged }
+    ensures answers { AnswersCountChanges }
 {}

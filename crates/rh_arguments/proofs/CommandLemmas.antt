@@ -101,12 +101,12 @@ maps_join : {A B C : Type 0} (g : A → B) (f : B → C) (o : Option A) → opti
 maps_join g f None = refl
 maps_join g f (Some x) = refl
 
-rows_told : (P : Text → List Row → Type 0) (rows : Option (Text × List Row)) (told : Option Text) → told ≡ option_map (λ found. found.0) rows → Finds P rows
+rows_named : (P : Text → List Row → Type 0) (rows : Option (Text × List Row)) (told : Option Text) → told ≡ option_map (λ found. found.0) rows → Finds P rows
     → (row : Text × List Row) × (told ≡ Some row.0) × P row.0 row.1
-rows_told P None told is found = absurd found
-rows_told P (Some row) told is found = (row, is, found)
+rows_named P None told is found = absurd found
+rows_named P (Some row) told is found = (row, is, found)
 
 -- the name in clap's matches is that of a command
-pub name_told : (P : Text → List Row → Type 0) (m : ArgMatches) (told : Option Text) → told ≡ subcommand_name_of m → Finds P (subcommand_rows_of m)
+pub name_found : (P : Text → List Row → Type 0) (m : ArgMatches) (told : Option Text) → told ≡ subcommand_name_of m → Finds P (subcommand_rows_of m)
     → (row : Text × List Row) × (told ≡ Some row.0) × P row.0 row.1
-name_told P m told is found = rows_told P (subcommand_rows_of m) told (is ∙ maps_join _ _ _) found
+name_found P m told is found = rows_named P (subcommand_rows_of m) told (is ∙ maps_join _ _ _) found

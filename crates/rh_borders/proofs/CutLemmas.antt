@@ -62,14 +62,14 @@ piece_more f borders pieces i x cut new parts inside here is before are =
     ap (flat_map f) (take_more pieces i x inside ∙ ap (λ (y : _). take i pieces ++ y ∷ []) (sym here)) ∙ flat_map-append f (take i pieces) (x ∷ []) ∙ ap (λ l. flat_map f (take i pieces) ++ l) (append-nil (f x)) in
     both_cut borders (flat_map f (take i pieces)) (f x) (flat_map f (take (i + 1) pieces)) cut (parts ∷ []) new is joined before (one_piece borders (f x) parts are)
 
--- what was told of each is so of what was told
-pub told_one : {V E : Type 0} (P : V → Type 0) (made : List V) (told : List (Result V E)) (i : ℕ) (d : V) → map Ok made ≡ told → i < length made → IfOk (get_or told i (Ok d)) P → P (get_or made i d)
-told_one P made told i d is inside each =
-    let same : get_or told i (Ok d) ≡ Ok (get_or made i d) = ap (λ l. get_or l i (Ok d)) (sym is) ∙ get_or-map Ok made i d (Ok d) inside in
+-- what is so of each result is so of what was made-- what is so of each result is so of what was made
+pub one_done : {V E : Type 0} (P : V → Type 0) (made : List V) (tried : List (Result V E)) (i : ℕ) (d : V) → map Ok made ≡ tried → i < length made → IfOk (get_or tried i (Ok d)) P → P (get_or made i d)
+one_done P made tried i d is inside each =
+    let same : get_or tried i (Ok d) ≡ Ok (get_or made i d) = ap (λ l. get_or l i (Ok d)) (sym is) ∙ get_or-map Ok made i d (Ok d) inside in
     subst (λ r. IfOk r P) same each
 
-pub as_many : {V E : Type 0} (made : List V) (told : List (Result V E)) → map Ok made ≡ told → length made ≡ length told
-as_many {V} {E} made told is = sym (length-map {B = Result V E} made Ok) ∙ ap length is
+pub as_many : {V E : Type 0} (made : List V) (tried : List (Result V E)) → map Ok made ≡ tried → length made ≡ length tried
+as_many {V} {E} made tried is = sym (length-map {B = Result V E} made Ok) ∙ ap length is
 
 -- ---- the lists of a part
 

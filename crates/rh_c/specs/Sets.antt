@@ -13,7 +13,7 @@ use Rattle.rh_set.specs.declared.fault.InsertFault.TheVariants as insert
 use Rattle.rh_set.specs.declared.fault.PutFault.{PutFault}
 use Rattle.rh_set.specs.declared.fault.PutFault.TheVariants as put
 use Rattle.rh_set.specs.Inserting.{IsSizeWith}
-use Rattle.rh_set.specs.Putting.{IsFront, IsWhyNotPut}
+use Rattle.rh_set.specs.Putting.{IsPutInFront, IsWhyNotPut}
 use Rattle.rh_set.specs.Snapshot.{IsSnapshotOf, IsSnapshotPut, IsWhyNoSnapshot}
 use Rattle.rh_handle.specs.Calls.{IsWhyNotAdded}
 use Rattle.rh_c.specs.declared.answer.Detail.{Detail}
@@ -24,32 +24,32 @@ use Rattle.rh_c.specs.Answers.{detail}
 abbrev pub one_if : Bool → ℕ
 one_if added = if added then 1 else 0
 
-abbrev pub ToldInsert : Result Bool InsertFault → (status : ℕ) → Detail → Type 0
-ToldInsert (Ok added) status d = (status ≡ DONE) × (d ≡ detail 0 (one_if added))
-ToldInsert (Err insert.NotAKey) status d = (status ≡ BAD_KEY) × (d ≡ detail 0 0)
-ToldInsert (Err insert.Full) status d = (status ≡ FULL) × (d ≡ detail 0 0)
-ToldInsert (Err insert.Memory) status d = (status ≡ NO_MEMORY) × (d ≡ detail 0 0)
+abbrev pub IsInsertStatus : Result Bool InsertFault → (status : ℕ) → Detail → Type 0
+IsInsertStatus (Ok added) status d = (status ≡ DONE) × (d ≡ detail 0 (one_if added))
+IsInsertStatus (Err insert.NotAKey) status d = (status ≡ BAD_KEY) × (d ≡ detail 0 0)
+IsInsertStatus (Err insert.Full) status d = (status ≡ FULL) × (d ≡ detail 0 0)
+IsInsertStatus (Err insert.Memory) status d = (status ≡ NO_MEMORY) × (d ≡ detail 0 0)
 
-abbrev pub ToldPut : Result ℕ PutFault → (status : ℕ) → Detail → Type 0
-ToldPut (Ok count) status d = (status ≡ DONE) × (d ≡ detail 0 count)
-ToldPut (Err (put.NoRoom count)) status d = (status ≡ NO_ROOM) × (d ≡ detail 0 count)
-ToldPut (Err put.Memory) status d = (status ≡ NO_MEMORY) × (d ≡ detail 0 0)
+abbrev pub IsPutStatus : Result ℕ PutFault → (status : ℕ) → Detail → Type 0
+IsPutStatus (Ok count) status d = (status ≡ DONE) × (d ≡ detail 0 count)
+IsPutStatus (Err (put.NoRoom count)) status d = (status ≡ NO_ROOM) × (d ≡ detail 0 count)
+IsPutStatus (Err put.Memory) status d = (status ≡ NO_MEMORY) × (d ≡ detail 0 0)
 
-abbrev pub told_restore : Result (Unit {0}) SnapFault → ℕ
-told_restore (Ok done) = DONE
-told_restore (Err snap.NotSnapshot) = NOT_SNAPSHOT
-told_restore (Err snap.Short) = SHORT
-told_restore (Err snap.BadBits) = BAD_BITS
-told_restore (Err snap.Damaged) = DAMAGED
-told_restore (Err snap.NotALayout) = NOT_A_LAYOUT
-told_restore (Err snap.Long) = LONG
-told_restore (Err snap.Read) = NO_MEMORY
-told_restore (Err snap.Memory) = NO_MEMORY
+abbrev pub restore_status : Result (Unit {0}) SnapFault → ℕ
+restore_status (Ok done) = DONE
+restore_status (Err snap.NotSnapshot) = NOT_SNAPSHOT
+restore_status (Err snap.Short) = SHORT
+restore_status (Err snap.BadBits) = BAD_BITS
+restore_status (Err snap.Damaged) = DAMAGED
+restore_status (Err snap.NotALayout) = NOT_A_LAYOUT
+restore_status (Err snap.Long) = LONG
+restore_status (Err snap.Read) = NO_MEMORY
+restore_status (Err snap.Memory) = NO_MEMORY
 
 -- The set got the number, and whether that was new is told, or the set is as it was, and why is told.
 pub record AnswersInsert (old new : Held) (number status : ℕ) (d : Detail) : Type 0 where
   pub outcome : Result Bool InsertFault
-  pub told : ToldInsert outcome status d
+  pub told : IsInsertStatus outcome status d
   pub key : OnOk outcome (IsKey number)
   pub keys : OnOk outcome (new.keys ≡ set.insert old.keys number)
   pub added : IfOk outcome (λ added. added ≡ not (set.contains old.keys number))
@@ -60,15 +60,15 @@ pub record AnswersInsert (old new : Held) (number status : ℕ) (d : Detail) : T
 -- The rising keys of the set were put, or nothing was, and why is told.
 pub record AnswersList (held : Held) (old new : List ℕ) (status : ℕ) (d : Detail) : Type 0 where
   pub outcome : Result ℕ PutFault
-  pub told : ToldPut outcome status d
-  pub front : IfOk outcome (IsFront (rising_keys held.keys) old new)
+  pub told : IsPutStatus outcome status d
+  pub front : IfOk outcome (IsPutInFront (rising_keys held.keys) old new)
   pub why : IfErr outcome (IsWhyNotPut (set.len held.keys) (length old))
   pub unput : OnErr outcome (new ≡ old)
 
 -- A snapshot of the set was put, or nothing was, and why is told.
 pub record AnswersSnapshot (held : Held) (old new : List ℕ) (status : ℕ) (d : Detail) : Type 0 where
   pub outcome : Result ℕ PutFault
-  pub told : ToldPut outcome status d
+  pub told : IsPutStatus outcome status d
   pub front : IfOk outcome (IsSnapshotPut held old new)
   pub why : IfErr outcome (IsWhyNoSnapshot held (length old))
   pub unput : OnErr outcome (new ≡ old)
@@ -76,7 +76,7 @@ pub record AnswersSnapshot (held : Held) (old new : List ℕ) (status : ℕ) (d 
 -- The set is that of the snapshot, or as it was, and the first fault in the bytes is told.
 pub record AnswersRestore (old new : Held) (bytes : List ℕ) (status : ℕ) : Type 0 where
   pub outcome : Result (Unit {0}) SnapFault
-  pub told : status ≡ told_restore outcome
+  pub told : status ≡ restore_status outcome
   pub restored : OnOk outcome ((version : Version) × IsSnapshotOf version bytes new)
   pub fault : IfErr outcome (λ fault. SnapFails fault (file_table bytes))
   pub unchanged : OnErr outcome (new ≡ old)

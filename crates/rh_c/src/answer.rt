@@ -5,8 +5,8 @@ ghost use Rattle.rh_slices.specs.declared.refused.Refused.{Refused as Why};
 ghost use Rattle.rh_set.specs.declared.fault.InsertFault.{InsertFault as WhyNotAdded};
 ghost use Rattle.rh_set.specs.declared.fault.PutFault.{PutFault as WhyNotPut};
 ghost use Rattle.rh_snapshot.specs.declared.fault.SnapFault.{SnapFault as WhyNotRead};
-ghost use Rattle.rh_c.specs.Answers.{Told};
-ghost use Rattle.rh_c.specs.Sets.{ToldInsert, ToldPut, told_restore};
+ghost use Rattle.rh_c.specs.Answers.{IsStatus};
+ghost use Rattle.rh_c.specs.Sets.{IsInsertStatus, IsPutStatus, restore_status};
 
 use rh_set::{InsertFault, PutFault};
 use rh_slices::Refused;
@@ -58,7 +58,7 @@ pub struct Detail {
 
 /// The status of an outcome, and what that is about.
 pub(crate) fn tell(outcome: Result<usize, Refused>, detail: &mut Detail) -> u32
-    ensures { Told outcome result detail.new }
+    ensures { IsStatus outcome result detail.new }
 {
     let (status, list, number) = match outcome {
         Ok(count) => (DONE, 0, count),
@@ -75,7 +75,7 @@ pub(crate) fn tell(outcome: Result<usize, Refused>, detail: &mut Detail) -> u32
 
 /// The same of an insertion: whether the key was added is 1 or 0.
 pub(crate) fn tell_insert(outcome: Result<bool, InsertFault>, detail: &mut Detail) -> u32
-    ensures { ToldInsert outcome result detail.new }
+    ensures { IsInsertStatus outcome result detail.new }
 {
     let (status, number) = match outcome {
         Ok(added) => (DONE, u64::from(added)),
@@ -89,7 +89,7 @@ pub(crate) fn tell_insert(outcome: Result<bool, InsertFault>, detail: &mut Detai
 
 /// The same of what was put at the front of a slice.
 pub(crate) fn tell_put(outcome: Result<usize, PutFault>, detail: &mut Detail) -> u32
-    ensures { ToldPut outcome result detail.new }
+    ensures { IsPutStatus outcome result detail.new }
 {
     let (status, number) = match outcome {
         Ok(count) => (DONE, count),
@@ -105,7 +105,7 @@ pub(crate) fn tell_put(outcome: Result<usize, PutFault>, detail: &mut Detail) ->
 
 /// The status of a snapshot that was read. No read of bytes in memory fails.
 pub(crate) fn tell_restore(outcome: Result<(), SnapFault>) -> u32
-    ensures { result ≡ told_restore outcome }
+    ensures { result ≡ restore_status outcome }
 {
     match outcome {
         Ok(()) => DONE,

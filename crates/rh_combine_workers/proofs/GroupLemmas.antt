@@ -23,7 +23,7 @@ use Rattle.rh_borders.specs.Cut.{AreLists}
 use Rattle.rh_combine_workers.specs.Groups.{IsGroup, TellsGroup, TellsShare, group_edge, parts_of}
 use Rattle.rh_combine_workers.specs.Spelled.{spelled, spelling_of}
 use Rattle.rh_borders.proofs.BorderLemmas.{rise_to}
-use Rattle.rh_borders.proofs.CutLemmas.{as_many, told_one}
+use Rattle.rh_borders.proofs.CutLemmas.{as_many, one_done}
 
 module _ (how : How) (lists : List (List ℕ)) where
   abbrev of : (a c : ℕ) → List ℕ
@@ -39,17 +39,17 @@ module _ (how : How) (lists : List (List ℕ)) where
       omega (arith, before, next, ap at same)
 
   module _ {V : Type 0} where
-    -- g makes of the numbers what is told of them
-    pub all_told : (told : V → List ℕ) (g : List ℕ → List ℕ) → g [] ≡ [] → ((xs ys : List ℕ) → g (xs ++ ys) ≡ g xs ++ g ys) → (groups : List V) (at : ℕ → ℕ) → ((i : ℕ) → i < length groups → at i ≤ at (i + 1))
-        → ((i : ℕ) (d : V) → i < length groups → told (get_or groups i d) ≡ g (of (at i) (at (i + 1))))
-        → flat_map told groups ≡ g (of (at 0) (at (length groups)))
-    all_told told g none both [] at rise each = sym (ap g (within-none (at 0) (answer how lists)) ∙ none)
-    all_told told g none both (x ∷ groups) at rise each =
+    -- g makes of the numbers the numbers in what was made of them
+    pub all_numbers : (numbers_in : V → List ℕ) (g : List ℕ → List ℕ) → g [] ≡ [] → ((xs ys : List ℕ) → g (xs ++ ys) ≡ g xs ++ g ys) → (groups : List V) (at : ℕ → ℕ) → ((i : ℕ) → i < length groups → at i ≤ at (i + 1))
+        → ((i : ℕ) (d : V) → i < length groups → numbers_in (get_or groups i d) ≡ g (of (at i) (at (i + 1))))
+        → flat_map numbers_in groups ≡ g (of (at 0) (at (length groups)))
+    all_numbers numbers_in g none both [] at rise each = sym (ap g (within-none (at 0) (answer how lists)) ∙ none)
+    all_numbers numbers_in g none both (x ∷ groups) at rise each =
         let many : length groups + 1 ≡ length (x ∷ groups) = omega arith in
         let later : (i : ℕ) → suc i ≡ i + 1 = λ i. omega arith in
-        let this : told x ≡ g (of (at 0) (at 1)) = each 0 x (omega arith) in
-        let others : flat_map told groups ≡ g (of (at 1) (at (length groups + 1))) =
-        all_told told g none both groups (λ i. at (i + 1)) (λ i inside. rise (i + 1) (omega (arith, inside)))
+        let this : numbers_in x ≡ g (of (at 0) (at 1)) = each 0 x (omega arith) in
+        let others : flat_map numbers_in groups ≡ g (of (at 1) (at (length groups + 1))) =
+        all_numbers numbers_in g none both groups (λ i. at (i + 1)) (λ i inside. rise (i + 1) (omega (arith, inside)))
         (λ i d inside. each (suc i) d (omega (arith, inside)) ∙ (λ j. g (of (at (later i j)) (at (later i j + 1))))) in
         let behind : at 1 ≤ at (length groups + 1) = rising (λ i. at (i + 1)) (length groups) (λ i inside. rise (i + 1) (omega (arith, inside))) in
         (λ j. this j ++ others j)
@@ -96,14 +96,14 @@ module _ (cut : CutLists) (are : AreBorders cut.borders.values.items) (first siz
 
 -- ---- a round of groups
 
-module _ {E : Type 0} (wanted : Wanted) (cut : CutLists) (lists : List (List ℕ)) (are : AreLists cut lists) (first size n : ℕ) (inside : first < length cut.borders.values.items) (done : List Group) (told : List (Result Group E))
-    (is : map Ok done ≡ told) (many : length told ≡ n) (each : (i : ℕ) (d : Result Group E) → i < n → TellsGroup wanted cut first size i (get_or told i d)) where
+module _ {E : Type 0} (wanted : Wanted) (cut : CutLists) (lists : List (List ℕ)) (are : AreLists cut lists) (first size n : ℕ) (inside : first < length cut.borders.values.items) (done : List Group) (tried : List (Result Group E))
+    (is : map Ok done ≡ tried) (many : length tried ≡ n) (each : (i : ℕ) (d : Result Group E) → i < n → TellsGroup wanted cut first size i (get_or tried i d)) where
   so_many : length done ≡ n
-  so_many = as_many done told is ∙ many
+  so_many = as_many done tried is ∙ many
 
   group_is : (i : ℕ) (d : Group) → i < length done → IsGroup wanted cut.borders.values.items (group_edge first i size (parts_of cut)) (group_edge first (i + 1) size (parts_of cut)) lists (get_or done i d)
   group_is i d here =
-      told_one (IsGroup wanted cut.borders.values.items (group_edge first i size (parts_of cut)) (group_edge first (i + 1) size (parts_of cut)) lists) done told i d is here
+      one_done (IsGroup wanted cut.borders.values.items (group_edge first i size (parts_of cut)) (group_edge first (i + 1) size (parts_of cut)) lists) done tried i d is here
       ((each i (Ok d) (omega (arith, here, so_many))).is lists are)
 
   begins : group_edge first 0 size (parts_of cut) ≡ first
@@ -111,7 +111,7 @@ module _ {E : Type 0} (wanted : Wanted) (cut : CutLists) (lists : List (List ℕ
 
   pub round_bytes : flat_map (λ g. g.bytes.items) done ≡ spelled wanted.form (between cut.borders.values.items first (group_edge first n size (parts_of cut)) (answer wanted.how lists))
   round_bytes =
-      all_told wanted.how lists (λ (g : Group). g.bytes.items) (spelled wanted.form) refl (flat_map-append (spelling_of wanted.form)) done (border_at cut are.borders first size) (λ i _. border-rises cut are.borders first size i) (λ i d here. (group_is i d here).bytes)
+      all_numbers wanted.how lists (λ (g : Group). g.bytes.items) (spelled wanted.form) refl (flat_map-append (spelling_of wanted.form)) done (border_at cut are.borders first size) (λ i _. border-rises cut are.borders first size i) (λ i d here. (group_is i d here).bytes)
       ∙ (λ j. spelled wanted.form (between cut.borders.values.items (begins j) (group_edge first (so_many j) size (parts_of cut)) (answer wanted.how lists)))
 
   pub round_count : sum_by (λ g. g.count) done ≡ length (between cut.borders.values.items first (group_edge first n size (parts_of cut)) (answer wanted.how lists))
@@ -121,15 +121,15 @@ module _ {E : Type 0} (wanted : Wanted) (cut : CutLists) (lists : List (List ℕ
 
 -- ---- the shares of all workers
 
-module _ {V E : Type 0} (items : V → List ℕ) (how : How) (cut : CutLists) (lists : List (List ℕ)) (are : AreLists cut lists) (size n : ℕ) (done : List V) (told : List (Result V E))
-    (is : map Ok done ≡ told) (many : length told ≡ n) (each : (i : ℕ) (d : Result V E) → i < n → TellsShare items how cut size i (get_or told i d)) (enough : parts_of cut ≤ n * size) where
+module _ {V E : Type 0} (items : V → List ℕ) (how : How) (cut : CutLists) (lists : List (List ℕ)) (are : AreLists cut lists) (size n : ℕ) (done : List V) (tried : List (Result V E))
+    (is : map Ok done ≡ tried) (many : length tried ≡ n) (each : (i : ℕ) (d : Result V E) → i < n → TellsShare items how cut size i (get_or tried i d)) (enough : parts_of cut ≤ n * size) where
   pub all_shares : flat_map items done ≡ between cut.borders.values.items 0 (parts_of cut) (answer how lists)
   all_shares =
-      let so_many : length done ≡ n = as_many done told is ∙ many in
+      let so_many : length done ≡ n = as_many done tried is ∙ many in
       let begins : group_edge 0 0 size (parts_of cut) ≡ 0 = edge-first 0 size (parts_of cut) (omega arith) in
       let ends : group_edge 0 n size (parts_of cut) ≡ parts_of cut = omega (arith, enough) in
-      all_told how lists items (λ l. l) refl (λ _ _. refl) done (border_at cut are.borders 0 size) (λ i _. border-rises cut are.borders 0 size i)
-      (λ i d here. told_one (λ v. items v ≡ between cut.borders.values.items (group_edge 0 i size (parts_of cut)) (group_edge 0 (i + 1) size (parts_of cut)) (answer how lists)) done told i d is here ((each i (Ok d) (omega (arith, here, so_many))).is lists are))
+      all_numbers how lists items (λ l. l) refl (λ _ _. refl) done (border_at cut are.borders 0 size) (λ i _. border-rises cut are.borders 0 size i)
+      (λ i d here. one_done (λ v. items v ≡ between cut.borders.values.items (group_edge 0 i size (parts_of cut)) (group_edge 0 (i + 1) size (parts_of cut)) (answer how lists)) done tried i d is here ((each i (Ok d) (omega (arith, here, so_many))).is lists are))
       ∙ ap (λ m. between cut.borders.values.items (group_edge 0 0 size (parts_of cut)) (group_edge 0 m size (parts_of cut)) (answer how lists)) so_many
       ∙ (λ j. between cut.borders.values.items (begins j) (ends j) (answer how lists))
 

@@ -23,9 +23,9 @@ abbrev pub parts_of : CutLists → ℕ
 parts_of cut = length cut.borders.values.items - 1
 
 -- what a worker tells of a group: of whatever lists were cut, unless memory ran out
-pub record TellsGroup {E : Type 0} (wanted : Wanted) (cut : CutLists) (first size number : ℕ) (told : Result Group E) : Type 0 where
-  pub is : (lists : List (List ℕ)) → AreLists cut lists → IfOk told (IsGroup wanted cut.borders.values.items (group_edge first number size (parts_of cut)) (group_edge first (number + 1) size (parts_of cut)) lists)
+pub record TellsGroup {E : Type 0} (wanted : Wanted) (cut : CutLists) (first size number : ℕ) (tried : Result Group E) : Type 0 where
+  pub is : (lists : List (List ℕ)) → AreLists cut lists → IfOk tried (IsGroup wanted cut.borders.values.items (group_edge first number size (parts_of cut)) (group_edge first (number + 1) size (parts_of cut)) lists)
 
 -- what a worker tells of its share, as a list
-pub record TellsShare {V E : Type 0} (items : V → List ℕ) (how : How) (cut : CutLists) (size number : ℕ) (told : Result V E) : Type 0 where
-  pub is : (lists : List (List ℕ)) → AreLists cut lists → IfOk told (λ v. items v ≡ between cut.borders.values.items (group_edge 0 number size (parts_of cut)) (group_edge 0 (number + 1) size (parts_of cut)) (answer how lists))
+pub record TellsShare {V E : Type 0} (items : V → List ℕ) (how : How) (cut : CutLists) (size number : ℕ) (tried : Result V E) : Type 0 where
+  pub is : (lists : List (List ℕ)) → AreLists cut lists → IfOk tried (λ v. items v ≡ between cut.borders.values.items (group_edge 0 number size (parts_of cut)) (group_edge 0 (number + 1) size (parts_of cut)) (answer how lists))

@@ -74,12 +74,12 @@ pub(crate) fn groups<T: Threads + Sync>(
 /// All groups, where memory sufficed for each.
 pub(crate) fn all_done(
     alloc: Global,
-    told: Vec<Result<Group, AllocError>>,
+    tried: Vec<Result<Group, AllocError>>,
 ) -> Result<Vec<Group>, AllocError>
-    ensures { IfOk result (λ v. map Ok v.items ≡ told.items) }
+    ensures { IfOk result (λ v. map Ok v.items ≡ tried.items) }
 {
-    let mut groups = Vec::with_capacity(alloc, told.len())?;
-    for one in told {
+    let mut groups = Vec::with_capacity(alloc, tried.len())?;
+    for one in tried {
         let group = one?;
         groups.push(group)?;
     }

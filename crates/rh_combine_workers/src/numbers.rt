@@ -57,12 +57,12 @@ fn shares<T: Threads + Sync>(
 /// All shares, where memory sufficed for each.
 fn all_done(
     alloc: Global,
-    told: Vec<Result<Vec<u64>, AllocError>>,
+    tried: Vec<Result<Vec<u64>, AllocError>>,
 ) -> Result<Vec<Vec<u64>>, AllocError>
-    ensures { IfOk result (λ v. map Ok v.items ≡ told.items) }
+    ensures { IfOk result (λ v. map Ok v.items ≡ tried.items) }
 {
-    let mut shares = Vec::with_capacity(alloc, told.len())?;
-    for one in told {
+    let mut shares = Vec::with_capacity(alloc, tried.len())?;
+    for one in tried {
         let share = one?;
         shares.push(share)?;
     }
@@ -93,7 +93,7 @@ pub fn combine<T: Threads + Sync>(
 {
     let cut = cut_lists(team, lists)?;
     let size = cut.parts().div_ceil(team.workers.count);
-    let told = shares(team, how, &cut, size)?;
-    let shares = all_done(team.alloc, told)?;
+    let tried = shares(team, how, &cut, size)?;
+    let shares = all_done(team.alloc, tried)?;
     join_shares(team.alloc, &shares)
 }

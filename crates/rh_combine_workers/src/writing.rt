@@ -56,8 +56,8 @@ fn round<T: Threads + Sync, W: Write>(
         (group_edge first team.now.workers.count size (parts_of cut.now)) writer.old writer.new
         result }
 {
-    let told = groups(team, wanted, cut, first, size)?;
-    let done = all_done(team.alloc, told)?;
+    let tried = groups(team, wanted, cut, first, size)?;
+    let done = all_done(team.alloc, tried)?;
     write_groups(&done, writer)?;
     Ok(count_of(&done))
 }

@@ -79,9 +79,9 @@ pub fn round<R: Threads + Sync, T: Send, W: Work<R, T> + Sync>(
     ensures all { HasAll table.now result.0 }
     ensures fresh { InView IsFresh (views_of result.0) }
 {
-    let (mut all, told) = all_work(rt, table, seat, work);
+    let (mut all, outcome) = all_work(rt, table, seat, work);
     wipe(table, &mut all);
-    (all, told)
+    (all, outcome)
 }
 
 /// One round of the first so many workers of the table, while the others rest: they do their work,
@@ -101,8 +101,8 @@ pub fn round_of<R: Threads + Sync, T: Send, W: Work<R, T> + Sync>(
 {
     let mut working = seat;
     let resting = split(table, &mut working, workers);
-    let (mut all, told) = all_work(rt, table, working, work);
+    let (mut all, outcome) = all_work(rt, table, working, work);
     join(table, &mut all, resting);
     wipe(table, &mut all);
-    (all, told)
+    (all, outcome)
 }

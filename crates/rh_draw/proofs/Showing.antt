@@ -13,7 +13,7 @@ use Rattle.rh_svg.specs.declared.tags.Tag.TheVariants.{Svg, Label}
 use Rattle.rh_draw.specs.Changing.{LeaveAll, opening}
 use Rattle.rh_draw.specs.Columns.{ColumnsAreChanges}
 use Rattle.rh_draw.specs.Heads.{column_head, head_row, repeated, title_lines}
-use Rattle.rh_draw.specs.Notices.{AreTold, notice}
+use Rattle.rh_draw.specs.Notices.{AreNotices, notice}
 use Rattle.rh_draw.specs.Picture.{IsPicture, legend_lines, legend_marks}
 use Rattle.rh_draw.specs.Places.{lane_x}
 use Rattle.rh_draw.specs.Reading.{Draws, ShowsTags, head, is_head, line, mark, read}
@@ -182,19 +182,19 @@ all_rows window workers given i whose whole past before =
 
 -- ---- lines that are told of records
 
-module _ (z : Shape) (window : Window) (right : ℕ) (Told : List Tag → Type 0) where
+module _ (z : Shape) (window : Window) (right : ℕ) (Fits : List Tag → Type 0) where
   -- what comes of the lines so far with those of the records from here on
   abbrev pub Goes : (words : List ℕ) (rest : List Record) (done : List Tag) → Type 0
-  Goes words rest done = (more : List Tag) → AreTold z window right words rest more → Told (done ++ more)
+  Goes words rest done = (more : List Tag) → AreNotices z window right words rest more → Fits (done ++ more)
 
-  pub more_told : (given : List Record) (i : ℕ) (words next : List ℕ) (d : Record) (done : List Tag) → i < length given → LeaveAll z words (get_or given i d ∷ []) next →
+  pub more_notices : (given : List Record) (i : ℕ) (words next : List ℕ) (d : Record) (done : List Tag) → i < length given → LeaveAll z words (get_or given i d ∷ []) next →
       Goes words (drop i given) done → Goes next (drop (i + 1) given) (done ++ notice z window right words (get_or given i d))
-  more_told given i words next d done lt leaves before more told =
+  more_notices given i words next d done lt leaves before more notices =
       let here : List Tag = notice z window right words (get_or given i d) in
-      rw append_assoc (before (here ++ more) (rw (drop-cons given i d lt) (next, more, leaves, refl, (rw add-one at told))))
+      rw append_assoc (before (here ++ more) (rw (drop-cons given i d lt) (next, more, leaves, refl, (rw add-one at notices))))
 
-  pub all_told : (given : List Record) (i : ℕ) (words : List ℕ) (done : List Tag) → length given ≤ i → Goes words (drop i given) done → Told done
-  all_told given i words done past before =
+  pub all_notices : (given : List Record) (i : ℕ) (words : List ℕ) (done : List Tag) → length given ≤ i → Goes words (drop i given) done → Fits done
+  all_notices given i words done past before =
       let none : drop i given ≡ [] = grind (arith, common_steps) in
       rw append-nil at (before [] (rw none refl))
 
@@ -205,12 +205,12 @@ pub framed : {a b c d : List ℕ} {m l n k : List Tag} {h i : List (List ℕ)} �
 framed frame boxes more = both (simp append-nil at (both frame boxes)) more
 
 pub a_picture : (title : List (Vec ℕ Global)) (z there : Shape) (cells : List ℕ) (given : List Record) (window here : Window) (flags : List ℕ)
-    (right times width height : ℕ) (a b c d : List ℕ) (told : List Tag) → there ≡ z → here ≡ window → length flags ≡ length cells →
+    (right times width height : ℕ) (a b c d : List ℕ) (notices : List Tag) → there ≡ z → here ≡ window → length flags ≡ length cells →
     ColumnsAreChanges z cells given window flags → lane_x z.workers ≤ right → a ≡ [] → b ≡ a ++ start_tag (Svg width height) →
-    AreTold there here right (opening there cells) given told →
-    ShowsTags b c (legend_marks ++ flat_map (mark_of here) given) (legend_lines ++ (told ++ row_lines here there.workers (at_first there.workers) given))
+    AreNotices there here right (opening there cells) given notices →
+    ShowsTags b c (legend_marks ++ flat_map (mark_of here) given) (legend_lines ++ (notices ++ row_lines here there.workers (at_first there.workers) given))
     (title_lines title ++ repeated (head_row there.workers flags) (times + 1)) → d ≡ c ++ end_tag (Svg width height) → IsPicture title z cells given window d
-a_picture title z there cells given window here flags right times width height a b c d told same_shape same_window long columns wide empty opened are_told shows closed =
+a_picture title z there cells given window here flags right times width height a b c d notices same_shape same_window long columns wide empty opened are_notices shows closed =
     let tag : Tag = Svg width height in
     record {
       width = width;
@@ -220,8 +220,8 @@ a_picture title z there cells given window here flags right times width height a
       marks_are_steps = rw same_window at shows.marks_are;
       right = right;
       across = wide;
-      told = told;
-      are_told = rw (same_window, same_shape) at are_told;
+      notices = notices;
+      are_notices = rw (same_window, same_shape) at are_notices;
       lines_are = rw (same_window, same_shape) at shows.lines_are;
       flags = flags;
       long = long;

@@ -73,8 +73,8 @@ notice z window right words (Step step) =
     else []
 
 -- The lines of all records, one after the other, by the words that those before them left.
-abbrev pub AreTold : Shape → Window → (right : ℕ) → (words : List ℕ) → List Record → (lines : List Tag) → Type 0
-AreTold z window right words [] lines = lines ≡ []
-AreTold z window right words (given ∷ more) lines =
+abbrev pub AreNotices : Shape → Window → (right : ℕ) → (words : List ℕ) → List Record → (lines : List Tag) → Type 0
+AreNotices z window right words [] lines = lines ≡ []
+AreNotices z window right words (given ∷ more) lines =
     (there : List ℕ) × (rest : List Tag) × LeaveAll z words (given ∷ []) there × (lines ≡ notice z window right words given ++ rest)
-    × AreTold z window right there more rest
+    × AreNotices z window right there more rest

@@ -6,7 +6,7 @@ use Rattle.rh_words.specs.declared.shape.Shape.{Shape}
 use Rattle.rh_draw.specs.Changing.{opening}
 use Rattle.rh_draw.specs.Columns.{ColumnsAreChanges}
 use Rattle.rh_draw.specs.Heads.{head_row, repeated, title_lines}
-use Rattle.rh_draw.specs.Notices.{AreTold}
+use Rattle.rh_draw.specs.Notices.{AreNotices}
 use Rattle.rh_draw.specs.Places.{lane_x}
 use Rattle.rh_draw.specs.Reading.{heads, line, lines, mark, marks}
 use Rattle.rh_draw.specs.Rows.{at_first, mark_of, row_lines}
@@ -36,9 +36,9 @@ pub record IsPicture (title : List (Vec ℕ Global)) (z : Shape) (cells : List �
   -- workers whom they are about, and of rounds
   pub right : ℕ
   pub across : lane_x z.workers ≤ right
-  pub told : List Tag
-  pub are_told : AreTold z window right (opening z cells) given told
-  pub lines_are : lines inside ≡ legend_lines ++ (told ++ row_lines window z.workers (at_first z.workers) given)
+  pub notices : List Tag
+  pub are_notices : AreNotices z window right (opening z cells) given notices
+  pub lines_are : lines inside ≡ legend_lines ++ (notices ++ row_lines window z.workers (at_first z.workers) given)
   pub flags : List ℕ
   pub long : length flags ≡ length cells
   pub columns_are_changes : ColumnsAreChanges z cells given window flags

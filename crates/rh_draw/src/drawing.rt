@@ -7,7 +7,7 @@ ghost use Rattle.rh_svg.specs.Markup.{IsWellFormed};
 ghost use Rattle.rh_draw.specs.Changing.{opening};
 ghost use Rattle.rh_draw.specs.Columns.{ColumnsAreChanges};
 ghost use Rattle.rh_draw.specs.Heads.{head_row, repeated};
-ghost use Rattle.rh_draw.specs.Notices.{AreTold};
+ghost use Rattle.rh_draw.specs.Notices.{AreNotices};
 ghost use Rattle.rh_draw.specs.Picture.{IsPicture};
 ghost use Rattle.rh_draw.specs.Places.{lane_x};
 ghost use Rattle.rh_draw.specs.Reading.{ShowsTags};
@@ -60,14 +60,14 @@ pub fn draw(
     open(&mut canvas.out, tag)?;
     draw_frame(&mut canvas, title, &view, size)?;
     draw_boxes(&mut canvas, &view, &spans)?;
-    draw_told(alloc, &mut canvas, &view, cells, records, keys)?;
+    draw_lines(alloc, &mut canvas, &view, cells, records, keys)?;
     close(&mut canvas.out, tag)?;
     Ok(canvas.out)
 }
 
 // What the records tell. What comes later stands above: a decision crosses the columns, and the
 // marks stand above all lines.
-fn draw_told(
+fn draw_lines(
     alloc: Global,
     canvas: &mut Canvas,
     view: &PictureLayout,
@@ -76,11 +76,11 @@ fn draw_told(
     keys: &[Option<u64>],
 ) -> Result<(), AllocError>
     requires { length cells.now ≡ cell_count view.now.shape }
-    ensures { OnOk result ((told : List Tag) × AreTold view.now.shape view.now.window
+    ensures { OnOk result ((notices : List Tag) × AreNotices view.now.shape view.now.window
         view.now.right (opening view.now.shape cells.now)
-        records.now told × ShowsTags canvas.old.out.items canvas.new.out.items
+        records.now notices × ShowsTags canvas.old.out.items canvas.new.out.items
         (flat_map (mark_of view.now.window) records.now)
-        (told ++ row_lines view.now.window view.now.shape.workers
+        (notices ++ row_lines view.now.window view.now.shape.workers
         (at_first view.now.shape.workers) records.now)
         (repeated (head_row view.now.shape.workers view.now.flags.items)
         ((view.now.end - 1) / HEAD_STEPS + 1))) }

@@ -4,7 +4,7 @@
 ghost use Rattle.std.specs.Prelude.{◌≡◌, List, [], ◌∷◌, length};
 ghost use Rattle.rh_words.specs.Parts.{cell_count};
 ghost use Rattle.rh_draw.specs.Changing.{LeaveAll, opening};
-ghost use Rattle.rh_draw.specs.Notices.{AreTold, notice};
+ghost use Rattle.rh_draw.specs.Notices.{AreNotices, notice};
 ghost use Rattle.rh_draw.specs.Reading.{Draws, ShowsTags};
 ghost use Rattle.std.specs.Prelude.{OnOk};
 ghost use Rattle.rh_svg.specs.declared.tags.Tag.{Tag};
@@ -25,9 +25,9 @@ pub(crate) fn draw_notices(
     keys: &[Option<u64>],
 ) -> Result<(), AllocError>
     requires { length cells.now ≡ cell_count view.now.shape }
-    ensures { OnOk result ((told : List Tag) × AreTold view.now.shape view.now.window
+    ensures { OnOk result ((notices : List Tag) × AreNotices view.now.shape view.now.window
         view.now.right (opening view.now.shape cells.now)
-        records.now told × ShowsTags canvas.old.out.items canvas.new.out.items [] told []) }
+        records.now notices × ShowsTags canvas.old.out.items canvas.new.out.items [] notices []) }
 {
     let mut sight = Sight::new(alloc, &view.shape, cells)?;
     for record in records {

@@ -7,7 +7,7 @@ ghost use Rattle.rh_edit.specs.Rising.{rising_keys};
 ghost use Rattle.rh_snapshot.specs.declared.version.Version.{Version};
 ghost use Rattle.rh_snapshot.specs.Reading.{SnapFails, file_table};
 ghost use Rattle.rh_set.specs.Inserting.{IsSizeWith};
-ghost use Rattle.rh_set.specs.Putting.{IsFront, IsWhyNotPut};
+ghost use Rattle.rh_set.specs.Putting.{IsPutInFront, IsWhyNotPut};
 ghost use Rattle.rh_set.specs.Snapshot.{IsSnapshotOf, IsSnapshotPut, IsWhyNoSnapshot};
 ghost use Rattle.rh_handle.specs.Calls.{IsWhyNotAdded, held_in};
 
@@ -84,7 +84,7 @@ impl Handle {
     /// Puts the keys at the front of the slice, in rising order, and answers how many they are.
     pub fn keys_into(&mut self, alloc: Global, into: &mut [u64]) -> Result<usize, PutFault>
         ensures front { IfOk result
-            (IsFront (rising_keys (held_in self.old).keys) into.old into.new) }
+            (IsPutInFront (rising_keys (held_in self.old).keys) into.old into.new) }
         ensures why { IfErr result
             (IsWhyNotPut (set.len (held_in self.old).keys) (length into.old)) }
         ensures unput { OnErr result (into.new ≡ into.old) }

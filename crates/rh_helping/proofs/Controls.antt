@@ -95,27 +95,27 @@ known_is (n ∷ ns) d h = ⊎_elim (⊎_elim
     there : is_known ns d ≡ true → (tells_opened n d || is_known ns d) ≡ true
     there e = ap (λ (b : Bool). tells_opened n d || b) e ∙ or_true (tells_opened n d)
 
-abbrev pub told_side : Side → Ref → Option WorldControl → Side
-told_side s d None = stale_noted s d
-told_side s d (Some k) = control_noted s d k
+abbrev pub said_side : Side → Ref → Option WorldControl → Side
+said_side s d None = stale_noted s d
+said_side s d (Some k) = control_noted s d k
 
-told_is : (s : Side) (d : Ref) (word : ℕ) → is_known s.facts d ≡ true → control_read s d word ≡ told_side s d (state_said d.number word)
-told_is s d word is = by (eqb (serial_in word) d.number)
+said_side_is : (s : Side) (d : Ref) (word : ℕ) → is_known s.facts d ≡ true → control_read s d word ≡ said_side s d (state_said d.number word)
+said_side_is s d word is = by (eqb (serial_in word) d.number)
   where
     by : (b : Bool) → cond b (control_noted s d (read_control word)) (cond (is_known s.facts d) (stale_noted s d) s)
-        ≡ told_side s d (cond b (Some (read_control word)) None)
+        ≡ said_side s d (cond b (Some (read_control word)) None)
     by true = refl
     by false = ap (λ (c : Bool). cond c (stale_noted s d) s) is
 
-abbrev pub mark_told_side : Side → (x : Ref) → (c : ℕ) → (d : Ref) → Option WorldControl → Side
-mark_told_side s x c d None = note_side (stale_noted s d) (may_demote x)
-mark_told_side s x c d (Some k) = mark_noted (control_noted s d k) x c k
+abbrev pub mark_said_side : Side → (x : Ref) → (c : ℕ) → (d : Ref) → Option WorldControl → Side
+mark_said_side s x c d None = note_side (stale_noted s d) (may_demote x)
+mark_said_side s x c d (Some k) = mark_noted (control_noted s d k) x c k
 
-mark_told_is : (s : Side) (x : Ref) (c : ℕ) (d : Ref) (word : ℕ) → mark_control_read s x c d word ≡ mark_told_side s x c d (state_said d.number word)
-mark_told_is s x c d word = by (eqb (serial_in word) d.number)
+mark_said_side_is : (s : Side) (x : Ref) (c : ℕ) (d : Ref) (word : ℕ) → mark_control_read s x c d word ≡ mark_said_side s x c d (state_said d.number word)
+mark_said_side_is s x c d word = by (eqb (serial_in word) d.number)
   where
     by : (b : Bool) → cond b (mark_noted (control_noted s d (read_control word)) x c (read_control word)) (note_side (stale_noted s d) (may_demote x))
-        ≡ mark_told_side s x c d (cond b (Some (read_control word)) None)
+        ≡ mark_said_side s x c d (cond b (Some (read_control word)) None)
     by true = refl
     by false = refl
 
@@ -146,15 +146,15 @@ said_none n word is e = true≢false (sym (ap is_some (is ∙ ap (λ (b : Bool).
 
 -- ---- what is so after a control was seen
 
-abbrev pub debts_told : List Debt → Ref → Option State → List Debt
-debts_told debts d (Some Undecided) = filter (λ q. not (is_ref q.desc d)) debts
-debts_told debts d _ = debts
+abbrev pub debts_said : List Debt → Ref → Option State → List Debt
+debts_said debts d (Some Undecided) = filter (λ q. not (is_ref q.desc d)) debts
+debts_said debts d _ = debts
 
-abbrev pub ToldAs : View → Ref → Option State → Type 0
-ToldAs next d None = In (over d) next.side.facts × In (stale d) next.side.facts
-ToldAs next d (Some k) = IsMet next d k 0
+abbrev pub AsSaid : View → Ref → Option State → Type 0
+AsSaid next d None = In (over d) next.side.facts × In (stale d) next.side.facts
+AsSaid next d (Some k) = IsMet next d k 0
 
--- it told this of d
+-- the control said this of d
 pub record Saw (v : View) (d : Ref) (r : Option State) (next : View) : Type 0 where
   pub keeps : Keeps v next
   pub marks_used : next.marks_used ≡ v.marks_used
@@ -163,10 +163,10 @@ pub record Saw (v : View) (d : Ref) (r : Option State) (next : View) : Type 0 wh
   pub current : next.side.current ≡ v.side.current
   pub released : next.side.released ≡ v.side.released
   pub unsettled : next.side.unsettled ≡ v.side.unsettled
-  pub debts : next.side.debts ≡ debts_told v.side.debts d r
+  pub debts : next.side.debts ≡ debts_said v.side.debts d r
   pub reads : next.side.reads ≡ v.side.reads
   pub claims : next.side.claims ≡ v.side.claims
-  pub told : ToldAs next d r
+  pub said : AsSaid next d r
 
 -- by what is known of it
 abbrev Known : View → Ref → Option State → Type 0
@@ -177,18 +177,18 @@ no_entry_before : (A : Type 0) (f : ℕ) → f < 0 → A
 no_entry_before A f lt = absurd (let h : ⊥ = omega arith in h)
 
 module _ (v : View) (d : Ref) (c : ℕ) where
-  abbrev pub told_view : Option State → View
-  told_view r = record v { side = told_side v.side d (option_map control_of r); control = c }
+  abbrev pub said_view : Option State → View
+  said_view r = record v { side = said_side v.side d (option_map control_of r); control = c }
 
-  met_decided : (k : State) → IsOver k → StandsAt (told_view (Some k)).side.facts d k 0 → (d.worker ≡ v.worker → suc d.number ≡ v.next_number) → IsMet (told_view (Some k)) d k 0
+  met_decided : (k : State) → IsOver k → StandsAt (said_view (Some k)).side.facts d k 0 → (d.worker ≡ v.worker → suc d.number ≡ v.next_number) → IsMet (said_view (Some k)) d k 0
   met_decided k o stands last = record { stands = stands; fresh = λ u. absurd (over_not k o u); last = last }
 
   abbrev noted_view : Option State → List Fact → View
-  noted_view r facts = record v { side = record v.side { facts = facts; debts = debts_told v.side.debts d r }; control = c }
+  noted_view r facts = record v { side = record v.side { facts = facts; debts = debts_said v.side.debts d r }; control = c }
 
-  saw_noted : (r : Option State) (facts : List Fact) → ((n : Fact) → In n v.side.facts → In n facts) → ToldAs (noted_view r facts) d r
+  saw_noted : (r : Option State) (facts : List Fact) → ((n : Fact) → In n v.side.facts → In n facts) → AsSaid (noted_view r facts) d r
       → Saw v d r (noted_view r facts)
-  saw_noted r facts more told = record {
+  saw_noted r facts more said = record {
     keeps = record { worker = refl; next_number = refl; facts = more };
     marks_used = refl;
     opened = refl;
@@ -199,10 +199,10 @@ module _ (v : View) (d : Ref) (c : ℕ) where
     debts = refl;
     reads = refl;
     claims = refl;
-    told = told;
+    said = said;
   }
 
-  saw : (r : Option State) → Known v d r → Saw v d r (told_view r)
+  saw : (r : Option State) → Known v d r → Saw v d r (said_view r)
   saw None h = saw_noted None (stale d ∷ over d ∷ v.side.facts) (λ n i. inr (inr i)) (inr (inl refl), inl refl)
   saw (Some Unused) h = absurd (h.0 refl)
   saw (Some Undecided) h = saw_noted (Some Undecided) (known d ∷ v.side.facts) (λ n i. inr i) (record {
@@ -227,13 +227,13 @@ saw_more v d r next n other h = record {
   debts = h.debts;
   reads = h.reads;
   claims = h.claims;
-  told = more r h.told;
+  said = more r h.said;
 }
   where
     then : View
     then = record next { side = note_side next.side n }
 
-    more : (r : Option State) → ToldAs next d r → ToldAs then d r
+    more : (r : Option State) → AsSaid next d r → AsSaid then d r
     more None h = (inr h.0, inr h.1)
     more (Some k) h = met_sub next then (record { worker = refl; next_number = refl; facts = λ m i. inr i }) (none_note (failed 0 next.worker) n next.side.facts other) d k 0 h
 
@@ -248,7 +248,7 @@ module _ (v : View) (d : Ref) (word : ℕ) (tells : ControlTells v d word) where
       (subst IsOpened (sym q.1) t.opened, (λ u f same i. t.older (sym q.1 ∙ ap control_of u) f same i), t.newest)
 
   -- who decided it, if this worker did, noted so
-  tells_had : (r : Option State) → option_map control_of r ≡ state_said d.number word → DecidesNone (failed 0 v.worker) v.side.facts (told_side v.side d (option_map control_of r)).facts
+  tells_had : (r : Option State) → option_map control_of r ≡ state_said d.number word → DecidesNone (failed 0 v.worker) v.side.facts (said_side v.side d (option_map control_of r)).facts
   tells_had None is = none_then (failed 0 v.worker) v.side.facts (over d ∷ v.side.facts) (stale d ∷ over d ∷ v.side.facts)
       (none_note (failed 0 v.worker) (over d) v.side.facts refl) (none_note (failed 0 v.worker) (stale d) (over d ∷ v.side.facts) refl)
   tells_had (Some k) is =
@@ -263,7 +263,7 @@ module _ (v : View) (d : Ref) (word : ℕ) (tells : ControlTells v d word) where
   module _ (r : Option State) (is : option_map control_of r ≡ state_said d.number word) (c : ℕ) (next : View) where
     pub saw_control : IsKnown v.side.facts d → next ≡ record v { side = control_read v.side d word; control = c } → Saw v d r next × FailsNone v next
     saw_control opened next_is =
-        let side_is : control_read v.side d word ≡ told_side v.side d (option_map control_of r) = told_is v.side d word (known_is v.side.facts d opened) ∙ ap (told_side v.side d) (sym is) in
+        let side_is : control_read v.side d word ≡ said_side v.side d (option_map control_of r) = said_side_is v.side d word (known_is v.side.facts d opened) ∙ ap (said_side v.side d) (sym is) in
         subst (λ (x : View). Saw v d r x × FailsNone v x) (sym (next_is ∙ ap (λ (s : Side). record v { side = s; control = c }) side_is))
         (saw v d c r (tells_known r is), tells_had r is)
 
@@ -281,20 +281,20 @@ marked_demotes next x c _ h ne = h
 
 module _ (v : View) (x d : Ref) (at c : ℕ) where
   abbrev pub marked_view : Option State → View
-  marked_view r = record v { side = mark_told_side v.side x at d (option_map control_of r); control = c }
+  marked_view r = record v { side = mark_said_side v.side x at d (option_map control_of r); control = c }
 
   abbrev Marked : Option State → View → Type 0
   Marked r next = Saw v d r next × FailsNone v next × MarkedAs next x at r
 
-  marked_note : (r : Option State) (n : Fact) → tells_decided n ≡ false → DecidesNone (failed 0 v.worker) v.side.facts (told_side v.side d (option_map control_of r)).facts → Known v d r
-      → MarkedAs (record (told_view v d c r) { side = note_side (told_view v d c r).side n }) x at r → Marked r (record (told_view v d c r) { side = note_side (told_view v d c r).side n })
+  marked_note : (r : Option State) (n : Fact) → tells_decided n ≡ false → DecidesNone (failed 0 v.worker) v.side.facts (said_side v.side d (option_map control_of r)).facts → Known v d r
+      → MarkedAs (record (said_view v d c r) { side = note_side (said_view v d c r).side n }) x at r → Marked r (record (said_view v d c r) { side = note_side (said_view v d c r).side n })
   marked_note r n other none h so = (
-    saw_more v d r (told_view v d c r) n other (saw v d c r h),
-    none_then (failed 0 v.worker) v.side.facts (told_view v d c r).side.facts (n ∷ (told_view v d c r).side.facts) none (none_note (failed 0 v.worker) n (told_view v d c r).side.facts other),
+    saw_more v d r (said_view v d c r) n other (saw v d c r h),
+    none_then (failed 0 v.worker) v.side.facts (said_view v d c r).side.facts (n ∷ (said_view v d c r).side.facts) none (none_note (failed 0 v.worker) n (said_view v d c r).side.facts other),
     so,
   )
 
-  marked : (r : Option State) → DecidesNone (failed 0 v.worker) v.side.facts (told_side v.side d (option_map control_of r)).facts → Known v d r → Marked r (marked_view r)
+  marked : (r : Option State) → DecidesNone (failed 0 v.worker) v.side.facts (said_side v.side d (option_map control_of r)).facts → Known v d r → Marked r (marked_view r)
   marked None none h = marked_note None (may_demote x) refl none h (inl refl)
   marked (Some Unused) none h = absurd (h.0 refl)
   marked (Some Undecided) none h = marked_note (Some Undecided) (may_promote x at) refl none h (inl refl)
@@ -305,7 +305,7 @@ module _ (v : View) (x d : Ref) (at c : ℕ) where
   pub saw_mark_control : (word : ℕ) → ControlTells v d word → (r : Option State) → option_map control_of r ≡ state_said d.number word
       → (next : View) → next ≡ record v { side = mark_control_read v.side x at d word; control = c } → Marked r next
   saw_mark_control word tells r is next next_is =
-      let side_is : mark_control_read v.side x at d word ≡ mark_told_side v.side x at d (option_map control_of r) = mark_told_is v.side x at d word ∙ ap (mark_told_side v.side x at d) (sym is) in
+      let side_is : mark_control_read v.side x at d word ≡ mark_said_side v.side x at d (option_map control_of r) = mark_said_side_is v.side x at d word ∙ ap (mark_said_side v.side x at d) (sym is) in
       subst (Marked r) (sym (next_is ∙ ap (λ (s : Side). record v { side = s; control = c }) side_is))
       (marked r (tells_had v d word tells r is) (tells_known v d word tells r is))
 
@@ -387,7 +387,7 @@ module _ (v : View) (d : Ref) (k : State) (over_k : IsOver k) (state : IsState k
   pub saw_decided : IsKnown v.side.facts d → (r : Option State) → option_map control_of r ≡ state_said d.number word → (c : ℕ) (next : View)
       → next ≡ record v { side = control_read v.side d word; control = c } → Saw v d r next × ((q : State) → r ≡ Some q → IsOver q)
   saw_decided opened r is c next next_is =
-      let side_is : control_read v.side d word ≡ told_side v.side d (option_map control_of r) = told_is v.side d word (known_is v.side.facts d opened) ∙ ap (told_side v.side d) (sym is) in (
+      let side_is : control_read v.side d word ≡ said_side v.side d (option_map control_of r) = said_side_is v.side d word (known_is v.side.facts d opened) ∙ ap (said_side v.side d) (sym is) in (
         subst (Saw v d r) (sym (next_is ∙ ap (λ (s : Side). record v { side = s; control = c }) side_is)) (saw v d c r (decided_known r is)),
         λ q e. (now_over q (ap (λ (o : Option State). option_map control_of o) (sym e) ∙ is)).0,
       )

@@ -17,7 +17,7 @@ use Rattle.rh_helping.specs.Goal.{IsStale, HasReleased, IsForeign, OwesOne, Rele
 use Rattle.rh_helping.specs.Settling.{Grows}
 use Rattle.rh_helping.specs.Work.{IsAt, IsGivenUp, IsOver, OwesAs}
 use Rattle.rh_helping.proofs.Growing.{known_sub, nothing_grows, stands_known}
-use Rattle.rh_helping.proofs.Controls.{Saw, debts_told}
+use Rattle.rh_helping.proofs.Controls.{Saw, debts_said}
 
 same_number : (q : Option ℕ) (n : ℕ) → (q ≡ Some n) ⊎ (q ≡ Some n → ⊥)
 same_number None n = inr (λ e. some_not_none n (sym e))
@@ -62,7 +62,7 @@ owes_over v t _ o h = h
 pub forget_nothing : (f : Debt → Bool) (debts : List Debt) → debts ≡ [] → filter f debts ≡ debts
 forget_nothing f debts e = subst (λ (l : List Debt). filter f l ≡ l) (sym e) refl
 
-pub debts_same : (debts : List Debt) (d : Ref) (r : Option State) → debts ≡ [] → debts_told debts d r ≡ debts
+pub debts_same : (debts : List Debt) (d : Ref) (r : Option State) → debts ≡ [] → debts_said debts d r ≡ debts
 debts_same debts d (Some Undecided) e = forget_nothing (λ q. not (is_ref q.desc d)) debts e
 debts_same debts d _ e = refl
 

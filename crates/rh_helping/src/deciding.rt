@@ -13,7 +13,7 @@ ghost use Rattle.rh_carrier.specs.Relies.{Trusts};
 
 use crate::goal::{OpenDesc, Task};
 use crate::machine::{At, Machine, Progress};
-use crate::reading::state_told;
+use crate::reading::state_by;
 use crate::stage::Stage;
 use rh_carrier::Steps;
 use rh_tagword::State;
@@ -89,7 +89,7 @@ impl Machine {
             ComesTo shape.now (opened_by opens.entry) w table.old side.now.known.view
             (led result self.new) table.new }
     {
-        match state_told(self.task.desc, control) {
+        match state_by(self.task.desc, control) {
             Some(state) => {
                 self.task = self.task.as_decided(state, None);
                 self.begin(shape, table, side, opens)
@@ -122,7 +122,7 @@ impl<T: Steps> Stage<T> for Withdraw {
         found: u64,
     ) -> Progress {
         let desc = machine.task.desc;
-        match state_told(desc, decided_word(desc, State::Withdrawn, found)) {
+        match state_by(desc, decided_word(desc, State::Withdrawn, found)) {
             Some(state) => machine.start(shape, table, side, opens, state),
             // (the row of the own open descriptor is of it)
             None => unreachable!(),

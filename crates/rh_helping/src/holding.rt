@@ -5,7 +5,7 @@ ghost use Rattle.rh_helping.specs.declared.machine.At.TheVariants as stage;
 
 use crate::goal::OpenDesc;
 use crate::machine::{At, Machine, Progress};
-use crate::reading::{CellContent, state_told, what_stands};
+use crate::reading::{CellContent, state_by, what_stands};
 use crate::settling::Settling;
 use crate::stage::Stage;
 use rh_carrier::Steps;
@@ -118,17 +118,17 @@ impl<T: Steps> Stage<T> for MarkControl {
         _opens: Option<OpenDesc<'_>>,
         found: u64,
     ) -> Progress {
-        match state_told(machine.task.desc, found) {
+        match state_by(machine.task.desc, found) {
             Some(state) => {
                 if state.is_decided() {
-                    machine.told = Some(state);
+                    machine.decided = Some(state);
                     machine.at = At::Demote;
                 } else {
                     machine.at = At::Promote;
                 }
             }
             None => {
-                machine.told = None;
+                machine.decided = None;
                 machine.at = At::Demote;
             }
         }
@@ -188,7 +188,7 @@ impl<T: Steps> Stage<T> for Demote {
         opens: Option<OpenDesc<'_>>,
         _found: u64,
     ) -> Progress {
-        match machine.told {
+        match machine.decided {
             Some(state) => {
                 machine.task = machine.task.as_decided(state, Some(machine.as_owed()));
                 machine.begin(shape, table, side, opens)
@@ -223,7 +223,7 @@ impl<T: Steps> Stage<T> for Recheck {
         opens: Option<OpenDesc<'_>>,
         found: u64,
     ) -> Progress {
-        match state_told(machine.task.desc, found) {
+        match state_by(machine.task.desc, found) {
             Some(state) => {
                 if state.is_decided() {
                     machine.task = machine.task.as_decided(state, Some(machine.as_owed()));

@@ -95,7 +95,7 @@ pub struct Machine {
     pub settling: Settling,
     /// How the descriptor was decided while the own mark was placed, or none where it is stale: at
     /// `Demote`.
-    pub told: Option<State>,
+    pub decided: Option<State>,
     /// Whether the descriptor came to stand in the cell: at `Recheck`.
     pub promoted: bool,
     /// Who decided that the own open descriptor failed: at `ReadReason`.
@@ -132,7 +132,7 @@ impl Machine {
             },
             mark: desc,
             settling: Settling::met(desc, 0),
-            told: None,
+            decided: None,
             promoted: false,
             decider: 0,
         }

@@ -10,7 +10,7 @@ use rh_words::Ref;
 
 /// How a descriptor stands by this word, its worker's control; or none where it is stale.
 #[inline(always)]
-pub fn state_told(desc: Ref, word: u64) -> Option<State>
+pub fn state_by(desc: Ref, word: u64) -> Option<State>
     requires { IsControlWord word }
     ensures { option_map control_of result ≡ state_said desc.number word }
 {

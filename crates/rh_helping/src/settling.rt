@@ -12,7 +12,7 @@ ghost use Rattle.rh_helping.specs.Next.{Settles};
 ghost use Rattle.rh_helping.specs.Settling.{GoesOn, Grows, IsSettling, LeadsOn, kind_of_settling};
 ghost use Rattle.rh_carrier.specs.Relies.{Relies};
 
-use crate::reading::{named_desc, state_told};
+use crate::reading::{named_desc, state_by};
 use rh_carrier::Steps;
 use rh_words::{Piece, Reading, Ref, Request, Shape, Side, StepKind};
 
@@ -177,7 +177,7 @@ impl Settling {
                     None => unreachable!(),
                 }
             }
-            SettlingAt::Control => match state_told(self.piece.desc, found) {
+            SettlingAt::Control => match state_by(self.piece.desc, found) {
                 Some(state) => {
                     if state.is_decided() {
                         self.at = SettlingAt::Old;

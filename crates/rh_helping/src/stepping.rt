@@ -7,7 +7,7 @@ ghost use Rattle.rh_helping.specs.Machine.{led, work_at, work_of};
 ghost use Rattle.rh_helping.specs.Stepping.{HasGoneOn, MayGoOn};
 
 use crate::deciding::{ReadReason, Succeed, Withdraw};
-use crate::entering::{Control, EntrySerial, LengthSerial};
+use crate::entering::{EntrySerial, LengthSerial, ReadControl};
 use crate::goal::OpenDesc;
 use crate::holding::{Demote, MarkControl, Place, Promote, Recheck, Settle};
 use crate::machine::{At, Machine, Progress};
@@ -39,7 +39,7 @@ impl Machine {
     {
         let opens = Some(own);
         let progress = match self.at {
-            At::Control => self.make::<T, Control>(shape, table, side, opens),
+            At::Control => self.make::<T, ReadControl>(shape, table, side, opens),
             At::MarkSerial => self.make_kept(At::MarkSerial, shape, table, side),
             At::MarkDesc => self.make_kept(At::MarkDesc, shape, table, side),
             At::MarkEntry => self.make_kept(At::MarkEntry, shape, table, side),
@@ -92,7 +92,7 @@ impl Machine {
             table.old side.old.known.view (led result self.new) table.new side.new.known.view }
     {
         match self.at {
-            At::Control => self.make::<T, Control>(shape, table, side, opens),
+            At::Control => self.make::<T, ReadControl>(shape, table, side, opens),
             At::LengthSerial => self.make::<T, LengthSerial>(shape, table, side, opens),
             At::EntrySerial => self.make::<T, EntrySerial>(shape, table, side, opens),
             At::Place => self.make::<T, Place>(shape, table, side, opens),

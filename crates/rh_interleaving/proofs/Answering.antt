@@ -19,48 +19,48 @@ use Rattle.rh_turns.proofs.AtHands.{at_hand_is}
 use Rattle.rh_turns.proofs.Ended.{plays_ends}
 use Rattle.rh_turns.proofs.Playing.{in_hands, some_hand}
 use Rattle.rh_turns.proofs.Telling.{done_are, done_or_not, first_are_done, others_are_not, plays_tells}
-use Rattle.rh_interleaving.specs.Made.{AnswersAll, IsAnswer, held_first, is_asked, is_claimed, is_shared, told_at, told_in, told_of}
+use Rattle.rh_interleaving.specs.Made.{AnswersAll, IsAnswer, held_first, is_asked, is_claimed, is_shared, recorded_at, recorded_in, recorded_of}
 use Rattle.rh_interleaving.proofs.Dealing.{part_at}
 
--- ---- what was told
+-- ---- what was recorded
 
 pub beyond_all : {A : Type 0} (f : Hand → A) (default : A) (hs : List Hand) (v : ℕ) → length hs ≤ v → at_hand f default hs v ≡ default
 beyond_all f default [] v high = refl
 beyond_all f default (h ∷ hs) zero high = absurd (omega (arith, high))
 beyond_all f default (h ∷ hs) (suc v) high = beyond_all f default hs v (omega (arith, high))
 
-pub nobody_told : (g : Game) (worker position : ℕ) → length g.hands ≤ worker → None ≡ told_of g worker position
-nobody_told g worker position high = sym (beyond_all (λ h. told_in g h.share position) None g.hands worker high)
+pub none_of_nobody : (g : Game) (worker position : ℕ) → length g.hands ≤ worker → None ≡ recorded_of g worker position
+none_of_nobody g worker position high = sym (beyond_all (λ h. recorded_in g h.share position) None g.hands worker high)
 
-within_piece : (g : Game) (first end position : ℕ) → first + position < end → told_at g (first + position) ≡ told_in g (Piece first end) position
+within_piece : (g : Game) (first end position : ℕ) → first + position < end → recorded_at g (first + position) ≡ recorded_in g (Piece first end) position
 within_piece g first end position less = go (ltb (first + position) end) refl
   where
-    go : (b : Bool) → ltb (first + position) end ≡ b → told_at g (first + position) ≡ (if b then told_at g (first + position) else None)
+    go : (b : Bool) → ltb (first + position) end ≡ b → recorded_at g (first + position) ≡ (if b then recorded_at g (first + position) else None)
     go true is = refl
     go false is = let high : end ≤ first + position = ltb-false (first + position) end is in absurd (omega (arith, high, less))
 
-past_piece : (g : Game) (first end position : ℕ) → end ≤ first + position → None ≡ told_in g (Piece first end) position
+past_piece : (g : Game) (first end position : ℕ) → end ≤ first + position → None ≡ recorded_in g (Piece first end) position
 past_piece g first end position high = go (ltb (first + position) end) refl
   where
-    go : (b : Bool) → ltb (first + position) end ≡ b → None ≡ (if b then told_at g (first + position) else None)
+    go : (b : Bool) → ltb (first + position) end ≡ b → None ≡ (if b then recorded_at g (first + position) else None)
     go true is = let less : first + position < end = ltb-true (first + position) end is in absurd (omega (arith, high, less))
     go false is = refl
 
 module _ (g : Game) (worker position : ℕ) (h : Hand) (inside : worker < length g.hands) (h_is : h ≡ get_or g.hands worker h) where
-  told_by_hand : told_in g h.share position ≡ told_of g worker position
-  told_by_hand = ap (λ (x : Hand). told_in g x.share position) h_is ∙ sym (at_hand_is (λ h. told_in g h.share position) None g.hands worker h inside)
+  recorded_by_hand : recorded_in g h.share position ≡ recorded_of g worker position
+  recorded_by_hand = ap (λ (x : Hand). recorded_in g x.share position) h_is ∙ sym (at_hand_is (λ h. recorded_in g h.share position) None g.hands worker h inside)
 
-  by_share : (share : Share) → h.share ≡ share → told_in g share position ≡ told_of g worker position
-  by_share share is = ap (λ (s : Share). told_in g s position) (sym is) ∙ told_by_hand
+  by_share : (share : Share) → h.share ≡ share → recorded_in g share position ≡ recorded_of g worker position
+  by_share share is = ap (λ (s : Share). recorded_in g s position) (sym is) ∙ recorded_by_hand
 
-  pub told_in_piece : (first end : ℕ) → h.share ≡ Piece first end → position < end - first → told_at g (first + position) ≡ told_of g worker position
-  told_in_piece first end is less = within_piece g first end position (omega (arith, less)) ∙ by_share (Piece first end) is
+  pub recorded_in_piece : (first end : ℕ) → h.share ≡ Piece first end → position < end - first → recorded_at g (first + position) ≡ recorded_of g worker position
+  recorded_in_piece first end is less = within_piece g first end position (omega (arith, less)) ∙ by_share (Piece first end) is
 
-  pub told_past_piece : (first end : ℕ) → h.share ≡ Piece first end → end - first ≤ position → None ≡ told_of g worker position
-  told_past_piece first end is high = past_piece g first end position (omega (arith, high)) ∙ by_share (Piece first end) is
+  pub none_past_piece : (first end : ℕ) → h.share ≡ Piece first end → end - first ≤ position → None ≡ recorded_of g worker position
+  none_past_piece first end is high = past_piece g first end position (omega (arith, high)) ∙ by_share (Piece first end) is
 
-  pub told_where_shared : (last : ℕ) (ended : Bool) → h.share ≡ Claims last ended → None ≡ told_of g worker position
-  told_where_shared last ended is = by_share (Claims last ended) is
+  pub none_where_shared : (last : ℕ) (ended : Bool) → h.share ≡ Claims last ended → None ≡ recorded_of g worker position
+  none_where_shared last ended is = by_share (Claims last ended) is
 
 module _ (g : Game) (plays : Plays g) where
   not_claimed : is_shared g ≡ false → All IsClaiming g.hands → ⊥
@@ -70,22 +70,22 @@ module _ (g : Game) (plays : Plays g) where
       let claims = all 0 h some in
       true≢false (sym (ap is_claimed claims.2) ∙ sym (at_hand_is (λ h. is_claimed h.share) false g.hands 0 h some) ∙ not_shared)
 
-asked : (g : Game) (position : ℕ) → g.kind ≡ Ask → told_at g position ≡ slice_index_or g.answers position None
+asked : (g : Game) (position : ℕ) → g.kind ≡ Ask → recorded_at g position ≡ slice_index_or g.answers position None
 asked g position asks = ap (λ (k : Kind). if is_asked k then slice_index_or g.answers position None else None) asks
 
 -- ---- at each moment
 
 module _ (g : Game) (plays : Plays g) (asks : g.kind ≡ Ask) where
-  pub answer_list : (position : ℕ) (told : Option Bool) → told ≡ told_at g position → IsAnswer (held_first g) (slice_index g.keys position) (IsDoneAt g position) told
-  answer_list position told is = ⊎_elim
+  pub answer_list : (position : ℕ) (answer : Option Bool) → answer ≡ recorded_at g position → IsAnswer (held_first g) (slice_index g.keys position) (IsDoneAt g position) answer
+  answer_list position answer is = ⊎_elim
       (λ (done : IsDoneAt g position). subst (IsAnswer (held_first g) (slice_index g.keys position) (IsDoneAt g position)) (sym (is ∙ asked g position asks ∙ tells.answers asks position done)) (done, refl))
       (λ (not : IsDoneAt g position → ⊥). subst (IsAnswer (held_first g) (slice_index g.keys position) (IsDoneAt g position)) (sym (is ∙ asked g position asks ∙ tells.unanswered position not)) not)
       (done_or_not g position)
     where
-      tells : OutcomeSpec g plays.told
+      tells : OutcomeSpec g plays.own_answers
       tells = plays_tells g plays
 
-  module _ (worker position : ℕ) (told : Option Bool) (is : told ≡ told_of g worker position) (inside : worker < length g.hands) (are : ArePieces 0 (shares_of g.hands) (length g.keys)) where
+  module _ (worker position : ℕ) (answer : Option Bool) (is : answer ≡ recorded_of g worker position) (inside : worker < length g.hands) (are : ArePieces 0 (shares_of g.hands) (length g.keys)) where
     abbrev h : Hand
     h = get_or g.hands worker (some_hand g plays)
 
@@ -107,12 +107,12 @@ module _ (g : Game) (plays : Plays g) (asks : g.kind ≡ Ask) where
     abbrev p : ℕ
     p = first_of h.share + position
 
-    -- within the piece what was told stands at its position of the list
-    told_there : p < end_of h.share → told ≡ slice_index_or g.answers p None
-    told_there within =
+    -- within the piece the answer stands at its position of the list
+    recorded_there : p < end_of h.share → answer ≡ slice_index_or g.answers p None
+    recorded_there within =
         let less : position < piece.1 - piece.0 = omega (arith, within, first_is, end_is) in
         let at : piece.0 + position ≡ p = omega (arith, first_is) in
-        is ∙ sym (told_in_piece g worker position h inside (get_or_default g.hands worker (some_hand g plays) h inside) piece.0 piece.1 piece.2 less)
+        is ∙ sym (recorded_in_piece g worker position h inside (get_or_default g.hands worker (some_hand g plays) h inside) piece.0 piece.1 piece.2 less)
         ∙ asked g (piece.0 + position) asks ∙ ap (λ (q : ℕ). slice_index_or g.answers q None) at
 
     key_there : p < end_of h.share → slice_index g.keys p ≡ slice_index (keys_at g worker) position
@@ -122,45 +122,45 @@ module _ (g : Game) (plays : Plays g) (asks : g.kind ≡ Ask) where
         ap (slice_index g.keys) at ∙ sym (part_at g.keys piece.0 piece.1 position less)
         ∙ ap (λ (ks : List ℕ). slice_index ks position) (sym (at_hand_is (keys_for g.keys) [] g.hands worker (some_hand g plays) inside ∙ ap (share_keys g.keys) piece.2))
 
-    nothing_told : length (positions_at g worker) ≤ position → told ≡ None
-    nothing_told high = ⊎_elim
-        (λ (within : p < end_of h.share). told_there within ∙ (plays_tells g plays).unanswered p (others_are_not g plays are worker position mine within high))
+    none_recorded : length (positions_at g worker) ≤ position → answer ≡ None
+    none_recorded high = ⊎_elim
+        (λ (within : p < end_of h.share). recorded_there within ∙ (plays_tells g plays).unanswered p (others_are_not g plays are worker position mine within high))
         (λ (past : end_of h.share ≤ p).
-        is ∙ sym (told_past_piece g worker position h inside (get_or_default g.hands worker (some_hand g plays) h inside) piece.0 piece.1 piece.2 (omega (arith, past, first_is, end_is))))
+        is ∙ sym (none_past_piece g worker position h inside (get_or_default g.hands worker (some_hand g plays) h inside) piece.0 piece.1 piece.2 (omega (arith, past, first_is, end_is))))
         (cases_lt p (end_of h.share))
 
-    in_pieces : IsAnswer (held_first g) (slice_index (keys_at g worker) position) (position < length (done_at g worker)) told
+    in_pieces : IsAnswer (held_first g) (slice_index (keys_at g worker) position) (position < length (done_at g worker)) answer
     in_pieces = ⊎_elim
         (λ (less : position < length (done_at g worker)).
         let done = first_are_done g plays are worker position mine (omega (arith, less, count)) in
         subst (IsAnswer (held_first g) (slice_index (keys_at g worker) position) (position < length (done_at g worker)))
-        (sym (told_there done.1 ∙ (plays_tells g plays).answers asks p done.0 ∙ ap (λ (k : ℕ). Some (contains (held_first g) k)) (key_there done.1))) (less, refl))
+        (sym (recorded_there done.1 ∙ (plays_tells g plays).answers asks p done.0 ∙ ap (λ (k : ℕ). Some (contains (held_first g) k)) (key_there done.1))) (less, refl))
         (λ (high : length (done_at g worker) ≤ position).
         subst (IsAnswer (held_first g) (slice_index (keys_at g worker) position) (position < length (done_at g worker)))
-        (sym (nothing_told (omega (arith, high, count)))) (λ (less : position < length (done_at g worker)). omega (arith, less, high)))
+        (sym (none_recorded (omega (arith, high, count)))) (λ (less : position < length (done_at g worker)). omega (arith, less, high)))
         (cases_lt position (length (done_at g worker)))
 
-  pub answer_piece : (worker position : ℕ) (told : Option Bool) → told ≡ told_of g worker position → is_shared g ≡ false → worker < length g.hands
-      → IsAnswer (held_first g) (slice_index (keys_at g worker) position) (position < length (done_at g worker)) told
-  answer_piece worker position told is not_shared inside = ⊎_elim (λ (are : ArePieces 0 (shares_of g.hands) (length g.keys)). in_pieces worker position told is inside are)
+  pub answer_piece : (worker position : ℕ) (answer : Option Bool) → answer ≡ recorded_of g worker position → is_shared g ≡ false → worker < length g.hands
+      → IsAnswer (held_first g) (slice_index (keys_at g worker) position) (position < length (done_at g worker)) answer
+  answer_piece worker position answer is not_shared inside = ⊎_elim (λ (are : ArePieces 0 (shares_of g.hands) (length g.keys)). in_pieces worker position answer is inside are)
       (λ (all : All IsClaiming g.hands). absurd (not_claimed g plays not_shared all)) plays.dealt
 
 -- ---- at the end
 
 module _ (g : Game) (plays : Plays g) where
-  pub answers_list : (position : ℕ) (told : Option Bool) → told ≡ told_at g position → AnswersAll g g.keys position told
-  answers_list position told is finished kind inside = is ∙ asked g position kind ∙ (plays_ends g plays finished).answers kind position inside
+  pub answers_list : (position : ℕ) (answer : Option Bool) → answer ≡ recorded_at g position → AnswersAll g g.keys position answer
+  answers_list position answer is finished kind inside = is ∙ asked g position kind ∙ (plays_ends g plays finished).answers kind position inside
 
   looked_at : (keys : List ℕ) (position : ℕ) → position < length keys → get_or (looked_up (held_first g) keys) position false ≡ contains (held_first g) (slice_index keys position)
   looked_at keys position inside = get_or-map (contains (held_first g)) keys position 0 false inside
 
-  pub answers_piece : (worker position : ℕ) (told : Option Bool) → told ≡ told_of g worker position → is_shared g ≡ false → worker < length g.hands → AnswersAll g (keys_at g worker) position told
-  answers_piece worker position told is not_shared inside finished kind low = ⊎_elim by_piece (λ (all : All IsClaiming g.hands). absurd (not_claimed g plays not_shared all)) plays.dealt
+  pub answers_piece : (worker position : ℕ) (answer : Option Bool) → answer ≡ recorded_of g worker position → is_shared g ≡ false → worker < length g.hands → AnswersAll g (keys_at g worker) position answer
+  answers_piece worker position answer is not_shared inside finished kind low = ⊎_elim by_piece (λ (all : All IsClaiming g.hands). absurd (not_claimed g plays not_shared all)) plays.dealt
     where
       h : Hand
       h = get_or g.hands worker (some_hand g plays)
 
-      by_piece : ArePieces 0 (shares_of g.hands) (length g.keys) → told ≡ Some (get_or (looked_up (held_first g) (keys_at g worker)) position false)
+      by_piece : ArePieces 0 (shares_of g.hands) (length g.keys) → answer ≡ Some (get_or (looked_up (held_first g) (keys_at g worker)) position false)
       by_piece are =
           let r = piece_within 0 g.hands (length g.keys) are worker (some_hand g plays) inside in
           let first : ℕ = r.0 in
@@ -169,8 +169,8 @@ module _ (g : Game) (plays : Plays g) where
           let size : length (keys_at g worker) ≡ end - first = ap length keys_are ∙ length-map-range_with_len (slice_index g.keys) first (end - first) in
           let less : position < end - first = omega (arith, low, size) in
           let within : first + position < length g.keys = omega (arith, less, r.3, r.4) in
-          let told_so = told_in_piece g worker position h inside (get_or_default g.hands worker (some_hand g plays) h inside) first end r.2 less in
+          let answer_is = recorded_in_piece g worker position h inside (get_or_default g.hands worker (some_hand g plays) h inside) first end r.2 less in
           let same : contains (held_first g) (slice_index g.keys (first + position)) ≡ contains (held_first g) (slice_index (keys_at g worker) position) =
           ap (contains (held_first g)) (sym (part_at g.keys first end position less) ∙ ap (λ (ks : List ℕ). slice_index ks position) (sym keys_are)) in
-          is ∙ sym told_so ∙ asked g (first + position) kind ∙ (plays_ends g plays finished).answers kind (first + position) within
+          is ∙ sym answer_is ∙ asked g (first + position) kind ∙ (plays_ends g plays finished).answers kind (first + position) within
           ∙ ap Some (looked_at g.keys (first + position) within ∙ same ∙ sym (looked_at (keys_at g worker) position low))

@@ -44,9 +44,9 @@ module _ (kind : Kind) (z : Shape) (words : List ℕ) (shares : List Share) (han
   next_hands new one now is = (ap shares_of is ∙ more_shares, subst (AreNew kind z words) (sym is) (more_new new one))
 
 -- what is so of no answer is so of None alone
-pub none_alone : (P : Option Bool → Type 0) → ((told : Bool) → P (Some told) → ⊥) → (answer : Option Bool) → P answer → answer ≡ None
+pub none_alone : (P : Option Bool → Type 0) → ((answer : Bool) → P (Some answer) → ⊥) → (answer : Option Bool) → P answer → answer ≡ None
 none_alone P not None p = refl
-none_alone P not (Some told) p = absurd (not told p)
+none_alone P not (Some answer) p = absurd (not answer p)
 
 -- all claim their keys
 pub will_claim : (shares : List Share) (hands : List Hand) → shares_of hands ≡ shares → All ClaimsAll shares → All WillClaim hands
@@ -60,7 +60,7 @@ module _ (kind : Kind) (z : Shape) (cells keys : List ℕ) (shares : List Share)
     (workers : length shares ≡ z.workers) (layout : IsLayout z.bits cells) (room : LeavesRoom kind z.bits (keys_of cells) keys)
     (are_keys : All IsKey keys) (dealt : AreShares z shares (length keys))
     (opening_is : opening ≡ cells) (words_are : words ≡ map plain_number cells) (plain_is : plain ≡ words) (n : ℕ) (n_is : n ≡ word_count z) (m : ℕ) (m_is : m ≡ length words)
-    (all_is : all ≡ take n words ++ replicate (n - m) 0) (none_told : answers ≡ replicate (length keys) None) (shares_are : shares_of hands ≡ shares) (new : AreNew kind z plain hands) where
+    (all_is : all ≡ take n words ++ replicate (n - m) 0) (none_answered : answers ≡ replicate (length keys) None) (shares_are : shares_of hands ≡ shares) (new : AreNew kind z plain hands) where
   abbrev game : Game
   game = record { kind = kind; shape = z; opening = opening; words = all; keys = keys; answers = answers; hands = hands }
 
@@ -81,7 +81,7 @@ module _ (kind : Kind) (z : Shape) (cells keys : List ℕ) (shares : List Share)
     room = subst (λ (cs : List ℕ). LeavesRoom kind z.bits (keys_of cs) keys) (sym opening_is) room;
     keys = are_keys;
     words = all_words;
-    answers = none_told;
+    answers = none_answered;
     hands = λ v d mine.
         let h = new v d (omega (arith, mine, as_many)) in
         record {

@@ -63,7 +63,7 @@ abbrev pub so_far : (g : Game) → Plays g → SoFar g
 so_far g plays = record {
   before = plays.running.before;
   now = history plays.running.world;
-  told = plays.told;
+  own_answers = plays.own_answers;
   stands = plays_moment g plays;
   tells = plays_tells g plays;
 }

@@ -11,7 +11,7 @@ use Rattle.rh_words.specs.declared.shape.Shape.{Shape}
 use Rattle.rh_words.specs.View.{View}
 use Rattle.rh_acts.specs.Workers.{how_many, joined, sum_of_all}
 use Rattle.rh_ledger.specs.Tally.{tally_by}
-use Rattle.rh_acts.proofs.Told.{told_is_changed}
+use Rattle.rh_acts.proofs.Changing.{answers_count_changes}
 use Rattle.rh_order.specs.Claimed.{claimed}
 use Rattle.rh_order.proofs.Sharing.{claims_few}
 use Rattle.rh_turns.specs.declared.hand.Hand.{Hand}
@@ -23,7 +23,7 @@ use Rattle.rh_turns.proofs.Apart.{end_of, first_of, piece_within}
 use Rattle.rh_turns.proofs.AtHands.{at_hand_is}
 use Rattle.rh_turns.proofs.Ended.{plays_ends}
 use Rattle.rh_turns.proofs.Playing.{done_claimed, in_hands, kept_at, plays_moment, some_hand}
-use Rattle.rh_turns.proofs.Telling.{positions_counted, told_size}
+use Rattle.rh_turns.proofs.Telling.{positions_counted, answers_size}
 use Rattle.rh_interleaving.proofs.Showing.{so_far}
 use Rattle.rh_interleaving.specs.Made.{TallySpec, changed_count, cut, done_count, held_first, total}
 
@@ -190,9 +190,9 @@ module _ (g : Game) (plays : Plays g) where
       let moment = plays_moment g plays in
       record {
         so_far = so_far g plays;
-        sums = sums (λ v. length (plays.told v)) (λ v. how_many (plays.told v))
-            (λ v inside. let mine : v < g.shape.workers = omega (arith, inside, plays.workers) in (told_size g plays v mine, sym (plays.changed v mine)));
-        changed = λ changed v mine. let is = moment.did v mine in (told_is_changed g.kind g.shape.bits is.reads (done_at g v) is.acts (plays.told v) is.each).1 changed;
+        sums = sums (λ v. length (plays.own_answers v)) (λ v. how_many (plays.own_answers v))
+            (λ v inside. let mine : v < g.shape.workers = omega (arith, inside, plays.workers) in (answers_size g plays v mine, sym (plays.changed v mine)));
+        changed = λ changed v mine. let is = moment.did v mine in (answers_count_changes g.kind g.shape.bits is.reads (done_at g v) is.acts (plays.own_answers v) is.each).1 changed;
       }
 
   -- ---- at the end

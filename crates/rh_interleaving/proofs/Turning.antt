@@ -18,7 +18,7 @@ use Rattle.rh_turns.proofs.AtHands.{at_hand_is}
 use Rattle.rh_turns.proofs.Recorded.{recorded_turn}
 use Rattle.rh_turns.proofs.Playing.{hand_of, kind_of_hand, plays_done, plays_relies}
 use Rattle.rh_turns.proofs.Turned.{plays_turn}
-use Rattle.rh_interleaving.specs.Turned.{Steps, Traced, Turned, touched_in}
+use Rattle.rh_interleaving.specs.Turned.{MakesOneStep, Traced, Turned, touched_in}
 
 module _ (g : Game) (plays : Plays g) (who : ℕ) (inside : who < length g.hands) (h : Hand) (h_is : h ≡ get_or g.hands who h) where
   mine : who < g.shape.workers
@@ -50,10 +50,10 @@ module _ (g : Game) (plays : Plays g) (who : ℕ) (inside : who < length g.hands
         (subst (λ (x : Hand). TurnsBy (Records last) g.shape keys (moment words answers x) turn next) (h_is ∙ get_or_default g.hands who h other inside) turns)))
 
     pub plays_on : IsHand g.shape h.worker.kind keys next.hand → (ws : List ℕ) (ts : List (Option Bool)) → ws ≡ next.words → ts ≡ next.answers → Plays (turned g who (moment ws ts next.hand))
-    plays_on hand ws ts ws_are told_are =
+    plays_on hand ws ts ws_are ts_are =
         let of_game : IsHand g.shape g.kind g.keys next.hand = subst (λ (k : Kind). IsHand g.shape k g.keys next.hand) kind_same (subst (λ (ks : List ℕ). IsHand g.shape h.worker.kind ks next.hand) keys_are hand) in
         subst (λ (x : List ℕ). Plays (turned g who (moment x ts next.hand))) (sym ws_are)
-        (subst (λ (x : List (Option Bool)). Plays (turned g who (record next { answers = x }))) (sym told_are) (plays_turn g plays who mine h turn next (recorded_turn last g.shape g.keys (moment_of g who h) next turn (turns_on h)) of_game))
+        (subst (λ (x : List (Option Bool)). Plays (turned g who (record next { answers = x }))) (sym ts_are) (plays_turn g plays who mine h turn next (recorded_turn last g.shape g.keys (moment_of g who h) next turn (turns_on h)) of_game))
 
   -- nothing changed
   same_game : (next : Moment) → next.words ≡ g.words → next.answers ≡ g.answers → next.hand ≡ get_or g.hands who h → turned g who next ≡ g
@@ -79,14 +79,14 @@ module _ (g : Game) (plays : Plays g) (who : ℕ) (inside : who < length g.hands
   module _ (keys words : List ℕ) (answers : List (Option Bool)) (keys_are : keys ≡ g.keys) (words_are : words ≡ g.words) (answers_are : answers ≡ g.answers)
       (last : Option Touched) (turn : Turn) (next : Moment) (turns : TurnsBy (Records last) g.shape keys (moment words answers h) turn next) where
     pub turned_to : (now : Game) → g ≡ now → (ws : List ℕ) (ts : List (Option Bool)) → ws ≡ next.words → ts ≡ next.answers → Traced now who turn (touched_in turn last) (turned g who (moment ws ts next.hand))
-    turned_to now now_is ws ts ws_are told_are =
+    turned_to now now_is ws ts ws_are ts_are =
         subst (λ (x : Game). Traced x who turn (touched_in turn last) (turned g who (moment ws ts next.hand))) now_is
         (subst (λ (x : List ℕ). Traced g who turn (touched_in turn last) (turned g who (moment x ts next.hand))) (sym ws_are)
-        (subst (λ (x : List (Option Bool)). Traced g who turn (touched_in turn last) (turned g who (record next { answers = x }))) (sym told_are)
+        (subst (λ (x : List (Option Bool)). Traced g who turn (touched_in turn last) (turned g who (record next { answers = x }))) (sym ts_are)
         (has_turned last turn next (turns_on keys words answers keys_are words_are answers_are last turn next turns))))
 
 -- what is traced is a turn
-steps_so : (g : Game) (who : ℕ) (k : StepKind) (touched : Option Touched) (next : Game) → Steps (Records touched) g who k next → Turned g who (Did k) next
+steps_so : (g : Game) (who : ℕ) (k : StepKind) (touched : Option Touched) (next : Game) → MakesOneStep (Records touched) g who k next → Turned g who (Did k) next
 steps_so g who k touched next s = record {
   worker = s.worker;
   stepped = s.stepped;

@@ -21,13 +21,13 @@ abbrev pub held_first : Game → Keys
 held_first g = keys_of g.opening
 
 -- What the workers have made so far: the acts of the earlier rounds and of this one, which are the descriptors that succeeded;
--- and what each worker was told of its keys, which it has done by its acts and by what it read.
+-- and the answers of the keys of each worker, which it has done by its acts and by what it read.
 pub record SoFar (g : Game) : Type 0 where
   pub before : List Made
   pub now : List Made
-  pub told : ℕ → List Bool
-  pub stands : MomentSpec (run_of g told) (held_first g) before now
-  pub tells : OutcomeSpec g told
+  pub own_answers : ℕ → List Bool
+  pub stands : MomentSpec (run_of g own_answers) (held_first g) before now
+  pub tells : OutcomeSpec g own_answers
 
 -- At each moment: the cells stand for the layout of the first set changed by the acts so far, and the set reflects each key
 -- that is done.
@@ -36,18 +36,18 @@ IsMadeSoFar g cells = AreNow g.shape g.words (keep g) cells × SoFar g
 
 -- ---- the tally
 
--- At each moment the tallies of all workers are summed up, each of what the worker was told of its keys so far. Where keys are
+-- At each moment the tallies of all workers are summed up, each of the answers of its worker's keys so far. Where keys are
 -- added or removed, these are as many as the acts that change a cell, among those by which it has done its keys.
 pub record TallySpec (g : Game) (t : Tally) : Type 0 where
   pub so_far : SoFar g
-  pub sums : t ≡ sum_of_all (λ v. counted g.kind (so_far.told v)) g.shape.workers
-  pub changed : g.kind ≢ Ask → (v : ℕ) → (mine : v < g.shape.workers) → how_many (so_far.told v) ≡ count_by changes (so_far.stands.did v mine).acts
+  pub sums : t ≡ sum_of_all (λ v. counted g.kind (so_far.own_answers v)) g.shape.workers
+  pub changed : g.kind ≢ Ask → (v : ℕ) → (mine : v < g.shape.workers) → how_many (so_far.own_answers v) ≡ count_by changes (so_far.stands.did v mine).acts
 
 abbrev pub total : List ℕ → ℕ
 total [] = 0
 total (n ∷ ns) = n + total ns
 
--- how many keys are done, by all workers, and of how many of them it was told that they were added, removed or found
+-- how many keys are done, by all workers, and how many of them were added, removed or found
 abbrev pub done_count : Game → ℕ
 done_count g = total (map (λ h. length (positions g.shape h)) g.hands)
 
@@ -70,16 +70,16 @@ is_asked Remove = false
 is_asked Ask = true
 
 -- of the key at this position of the list of all keys
-abbrev pub told_at : Game → (position : ℕ) → Option Bool
-told_at g position = if is_asked g.kind then slice_index_or g.answers position None else None
+abbrev pub recorded_at : Game → (position : ℕ) → Option Bool
+recorded_at g position = if is_asked g.kind then slice_index_or g.answers position None else None
 
 -- of the key at this position of a worker's own keys
-abbrev pub told_in : Game → Share → (position : ℕ) → Option Bool
-told_in g (Piece first end) position = if ltb (first + position) end then told_at g (first + position) else None
-told_in g (Claims last ended) position = None
+abbrev pub recorded_in : Game → Share → (position : ℕ) → Option Bool
+recorded_in g (Piece first end) position = if ltb (first + position) end then recorded_at g (first + position) else None
+recorded_in g (Claims last ended) position = None
 
-abbrev pub told_of : Game → (worker position : ℕ) → Option Bool
-told_of g worker position = at_hand (λ h. told_in g h.share position) None g.hands worker
+abbrev pub recorded_of : Game → (worker position : ℕ) → Option Bool
+recorded_of g worker position = at_hand (λ h. recorded_in g h.share position) None g.hands worker
 
 abbrev pub is_claimed : Share → Bool
 is_claimed (Piece first end) = false
@@ -92,8 +92,8 @@ is_shared g = at_hand (λ h. is_claimed h.share) false g.hands 0
 -- It is there just where the key is done, and says whether the first set held it.
 abbrev pub IsAnswer : (S : Keys) (k : ℕ) (IsDone : Type 0) → Option Bool → Type 0
 IsAnswer S k IsDone None = IsDone → ⊥
-IsAnswer S k IsDone (Some told) = IsDone × (told ≡ contains S k)
+IsAnswer S k IsDone (Some answer) = IsDone × (answer ≡ contains S k)
 
 -- that of one worker which does the whole list
 abbrev pub AnswersAll : Game → (keys : List ℕ) → (position : ℕ) → Option Bool → Type 0
-AnswersAll g keys position told = AllFinished g → g.kind ≡ Ask → position < length keys → told ≡ Some (slice_index_or (looked_up (held_first g) keys) position false)
+AnswersAll g keys position answer = AllFinished g → g.kind ≡ Ask → position < length keys → answer ≡ Some (slice_index_or (looked_up (held_first g) keys) position false)

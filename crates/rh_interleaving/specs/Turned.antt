@@ -16,7 +16,7 @@ use Rattle.rh_turns.specs.Game.{Game, keep}
 use Rattle.rh_turns.specs.Laws.{HandBegins, begun, hand, moment_of, turned}
 
 -- This worker made one step of this kind, of which this is so, and nothing else changed.
-pub record Steps (made : Making) (g : Game) (who : ℕ) (k : StepKind) (next : Game) : Type 0 where
+pub record MakesOneStep (made : Making) (g : Game) (who : ℕ) (k : StepKind) (next : Game) : Type 0 where
   pub worker : who < length g.hands
   pub stepped : Hand
   pub next_is : next ≡ turned g who (moment next.words next.answers stepped)
@@ -24,7 +24,7 @@ pub record Steps (made : Making) (g : Game) (who : ℕ) (k : StepKind) (next : G
 
 -- Where no step is made nothing changes.
 abbrev pub TurnedBy : (made : Making) → Game → (who : ℕ) → Turn → Game → Type 0
-TurnedBy made g who (Did k) next = Steps made g who k next
+TurnedBy made g who (Did k) next = MakesOneStep made g who k next
 TurnedBy made g who Finished next = (next ≡ g) × (who < length g.hands) × ((other : Hand) → IsFinished (hand g who other))
 TurnedBy made g who Spent next = (next ≡ g) × (who < length g.hands) × ((other : Hand) → IsSpent (hand g who other)) × HasNoRoom g.shape (keep g who)
 TurnedBy made g who NoSuchWorker next = (next ≡ g) × (length g.hands ≤ who)
@@ -41,7 +41,7 @@ touched_in NoSuchWorker last = None
 
 -- What is told of a turn: of a step what it touched, and else nothing.
 abbrev pub Traced : Game → (who : ℕ) → Turn → Option Touched → Game → Type 0
-Traced g who (Did k) touched next = Steps (Records touched) g who k next
+Traced g who (Did k) touched next = MakesOneStep (Records touched) g who k next
 Traced g who Finished touched next = Turned g who Finished next × (touched ≡ None)
 Traced g who Spent touched next = Turned g who Spent next × (touched ≡ None)
 Traced g who NoSuchWorker touched next = Turned g who NoSuchWorker next × (touched ≡ None)

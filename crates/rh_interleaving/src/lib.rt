@@ -23,7 +23,7 @@
 //! - The three other answers of `turn` change nothing. It is `Finished` where all its keys are
 //!   done, `Spent` where no number is left for a mark or a descriptor, and `NoSuchWorker` where
 //!   there is none.
-//! - A worker that gave up its key makes no further step in the round. What it was told of each key
+//! - A worker that gave up its key makes no further step in the round. The answer of each key
 //!   that is done follows from its act or its read of that key.
 //! - `trace`: the same, and of a step the part that it touched, the word that it found and the word
 //!   that it left.
@@ -33,7 +33,7 @@
 //! - `logical`: at each moment the layout of the first set changed by the acts so far, in which
 //!   each key that is done shows. Where all workers are finished, it is that of the set which one
 //!   worker makes of the whole list.
-//! - `tally`: at each moment exactly the number of keys that are done, with what was told of them.
+//! - `tally`: at each moment exactly the number of keys that are done, with their answers.
 //!   Where keys are added or removed, these are as many as the acts by which they are done that
 //!   change a cell. Where all workers are finished, it is the tally of one worker.
 //! - `answer` of a worker's piece, `answer_at` of a shared list: where keys are asked for, there is

@@ -9,7 +9,7 @@ ghost use Rattle.rh_tagword.specs.Word.{word_in};
 ghost use Rattle.rh_ledger.specs.Tally.{tally_by};
 ghost use Rattle.rh_turns.specs.Game.{AllFinished, IsDoneAt, done_at, keys_at};
 ghost use Rattle.rh_interleaving.specs.Made.{AnswersAll, IsAnswer, IsMadeSoFar, TallySpec, changed_count};
-ghost use Rattle.rh_interleaving.specs.Made.{done_count, held_first, is_shared, key_of, told_at, told_of};
+ghost use Rattle.rh_interleaving.specs.Made.{done_count, held_first, is_shared, key_of, recorded_at, recorded_of};
 
 use crate::player::Player;
 use rh_ledger::{Kind, Tally, tally_by};
@@ -62,8 +62,8 @@ impl Player {
         unpack(self.table.words[cell]).unwrap()
     }
 
-    /// What is counted of the keys that are done: how many they are, and of how many of them it was
-    /// told that they were added, removed or found.
+    /// What is counted of the keys that are done: how many they are, and how many of
+    /// them were added, removed or found.
     pub fn tally(&self) -> Tally
         ensures so_far { TallySpec self.now result }
         ensures counts { result ≡ tally_by self.now.kind (done_count self.now)
@@ -92,10 +92,10 @@ impl Player {
         Some(self.hands[worker].worker.key)
     }
 
-    /// Where keys are asked for: what was told of the key at this position of a worker's piece, if
-    /// it was.
+    /// Where keys are asked for: the answer of the key at this position of a worker's piece, if
+    /// it is done.
     pub fn answer(&self, worker: usize, position: usize) -> Option<bool>
-        ensures told { result ≡ told_of self.now worker position }
+        ensures answer { result ≡ recorded_of self.now worker position }
         ensures asked { self.now.kind ≡ Ask → is_shared self.now ≡ false →
             worker < length self.now.hands →
             IsAnswer (held_first self.now) (slice_index (keys_at self.now worker) position)
@@ -117,10 +117,10 @@ impl Player {
         }
     }
 
-    /// Where the keys of a shared list are asked for: what was told of the key at this position of
-    /// the list, if it was.
+    /// Where the keys of a shared list are asked for: the answer of the key at this position of
+    /// the list, if it is done.
     pub fn answer_at(&self, position: usize) -> Option<bool>
-        ensures told { is_shared self.now ≡ true → result ≡ told_at self.now position }
+        ensures answer { is_shared self.now ≡ true → result ≡ recorded_at self.now position }
         ensures none { is_shared self.now ≡ false → result ≡ None }
         ensures asked { self.now.kind ≡ Ask → is_shared self.now ≡ true →
             IsAnswer (held_first self.now) (slice_index self.now.keys position)
@@ -135,7 +135,7 @@ impl Player {
     }
 
     fn recorded_answer(&self, position: usize) -> Option<bool>
-        ensures told { result ≡ told_at self.now position }
+        ensures answer { result ≡ recorded_at self.now position }
     {
         if self.kind == Kind::Ask && position < self.answers.len() {
             return self.answers[position];

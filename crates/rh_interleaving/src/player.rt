@@ -15,7 +15,7 @@ pub struct Player {
     /// What the cells held when the player was made: the promises of its calls speak of it.
     pub(crate) opening: Vec<u64>,
     pub(crate) table: Recorder,
-    /// The keys of all workers, in one list, and what was told of each that is done.
+    /// The keys of all workers, in one list, and the answer of each that is done.
     pub(crate) keys: Vec<u64>,
     pub(crate) answers: Vec<Option<bool>>,
     pub(crate) hands: Vec<Hand>,

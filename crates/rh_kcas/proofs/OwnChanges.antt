@@ -42,7 +42,7 @@ module _ (w : World) (z : Shape) (d : Ref) (o : OwnDesc) (so : IsOpenedSo w d o)
       ∙ so.news e within
 
 pub own_changes_are_read : OwnChangesAreRead
-own_changes_are_read w z keep side told es e word v then next fits within swaps read mine now =
+own_changes_are_read w z keep side world_tells es e word v then next fits within swaps read mine now =
     let same : then.worker ≡ next.worker = sym read.worker in
     let d : Ref = own_ref next v.next_number in
     let opened : OwnDesc = record { number = v.next_number; entries = es } in
@@ -50,10 +50,10 @@ own_changes_are_read w z keep side told es e word v then next fits within swaps 
     let done : In (decided d succeeded) (keep next.worker).side.facts =
     subst (λ (u : View). In (decided d succeeded) u.side.facts) (sym now)
     (subst (λ (u : ℕ). In (decided (record { worker = u; number = v.next_number }) succeeded) next.side.facts) same (read.facts _ spec.result)) in
-    let act = told.order.made d (is_succeeded (w.control d) (told.results next.worker d succeeded mine done)) in
-    let so : IsOpenedSo w d opened = told.opened next.worker opened mine
+    let act = world_tells.order.made d (is_succeeded (w.control d) (world_tells.results next.worker d succeeded mine done)) in
+    let so : IsOpenedSo w d opened = world_tells.opened next.worker opened mine
     (subst (λ (u : View). In opened u.opened) (sym now) (subst (In opened) (sym (read.opened ∙ spec.opened)) (inl refl))) in
-    let tells = reads_tell w z keep side told (entry_of es e).cell word then next [] (subst (λ (u : ℕ). u < z.workers) read.worker mine) read
+    let tells = reads_tell w z keep side world_tells (entry_of es e).cell word then next [] (subst (λ (u : ℕ). u < z.workers) read.worker mine) read
     (ap (λ (u : ℕ). (keep u).side.reads) same ∙ ap (λ (u : View). u.side.reads) now) in
     let owner : (w.act act.0).worker ≡ next.worker = ap (λ (f : Ref). f.worker) act.2 in
     let number : (w.act act.0).number ≡ v.next_number = ap (λ (f : Ref). f.number) act.2 in
@@ -74,7 +74,7 @@ own_changes_are_read w z keep side told es e word v then next fits within swaps 
           let less : suc act.0 < tells.acts = omega (arith, q, earlier) in
           let count = tells.prefix.within in
           let its = only (suc act.0) (omega arith) less in
-          let up = told.order.ordered act.0 (suc act.0) (omega arith) (omega (arith, less, count)) (owner ∙ sym its) in
+          let up = world_tells.order.ordered act.0 (suc act.0) (omega arith) (omega (arith, less, count)) (owner ∙ sym its) in
           let low = tells.prefix.low (suc act.0) less (its ∙ sym same) in
           absurd (let h : ⊥ = omega (arith, up, low, number, later) in h))
           (same_nat tells.acts (suc act.0));

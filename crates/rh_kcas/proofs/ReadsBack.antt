@@ -34,12 +34,12 @@ order_from [] k earlier h j i = (h.0 j i).0
 order_from (m ∷ later) k earlier h j i = order_from later k earlier h.1 j i
 
 pub reads_tell : ReadsTell
-reads_tell w z keep side told c word v next newer mine read kept =
+reads_tell w z keep side world_tells c word v next newer mine read kept =
     let r : KeptRead = record { cell = c; word = word; acts = 0; next_number = v.next_number } in
     let p = parts (side v.worker).reads newer r v.side.reads
-    (sym (ap (λ (s : Side). s.reads) (told.kept v.worker mine)) ∙ kept ∙ ap (λ (l : List KeptRead). newer ++ l) read.seen_is.1) in
+    (sym (ap (λ (s : Side). s.reads) (world_tells.kept v.worker mine)) ∙ kept ∙ ap (λ (l : List KeptRead). newer ++ l) read.seen_is.1) in
     let k : KeptRead = record r { acts = p.acts } in
-    let says = told.foretold.reads v.worker k (subst (In k) (sym p.are) (in_parts p.later k p.earlier)) in
+    let says = world_tells.foretold.reads v.worker k (subst (In k) (sym p.are) (in_parts p.later k p.earlier)) in
     record {
       acts = p.acts;
       holds = says.1;
@@ -48,5 +48,5 @@ reads_tell w z keep side told c word v next newer mine read kept =
       later = p.later;
       reads = p.are;
       earlier_are = p.earlier_are;
-      in_order = order_from p.later k p.earlier (subst InOrder p.are (told.foretold.two_reads v.worker));
+      in_order = order_from p.later k p.earlier (subst InOrder p.are (world_tells.foretold.two_reads v.worker));
     }

@@ -9,7 +9,7 @@ use Rattle.rh_words.specs.declared.shape.Shape.{Shape}
 use Rattle.rh_words.specs.View.{View, own_ref}
 use Rattle.rh_words.specs.Steps.{entry_of}
 use Rattle.rh_rule.specs.Erased.{erased_read}
-use Rattle.rh_rule.specs.Rest.{Told}
+use Rattle.rh_rule.specs.Rest.{WorldTells}
 use Rattle.rh_helping.specs.Opening.{next_own}
 use Rattle.rh_helping.specs.declared.machine.Ended.TheVariants as ended
 use Rattle.rh_carrier.specs.Relies.{Knows}
@@ -27,7 +27,7 @@ pub record HasFailedSo (w : World) (side : ℕ → Side) (es : List Entry) (v : 
 
 -- So it is at the end of the call and at any later moment of the round, of which the rule tells.
 abbrev pub FailuresTell : Type 0
-FailuresTell = (w : World) (z : Shape) (keep : ℕ → View) (side : ℕ → Side) (told : Told w z keep side) (es : List Entry) (v next : View) (e : ℕ)
+FailuresTell = (w : World) (z : Shape) (keep : ℕ → View) (side : ℕ → Side) (world_tells : WorldTells w z keep side) (es : List Entry) (v next : View) (e : ℕ)
     → v.worker < z.workers → Knows z v → next.worker ≡ v.worker → RestSpec es v next (ended.Failed e)
     → ((n : Fact) → In n next.side.facts → In n (keep v.worker).side.facts) → In (next_own v es) (keep v.worker).opened
-    → HasFailedSo w side es v e (told.foretold.failed_acts (own_ref v v.next_number))
+    → HasFailedSo w side es v e (world_tells.foretold.failed_acts (own_ref v v.next_number))

@@ -9,7 +9,7 @@ use Rattle.rh_words.specs.declared.shape.Shape.{Shape}
 use Rattle.rh_words.specs.View.{View}
 use Rattle.rh_words.specs.Steps.{AreEntries, entry_of}
 use Rattle.rh_rule.specs.Erased.{erased_read}
-use Rattle.rh_rule.specs.Rest.{Told}
+use Rattle.rh_rule.specs.Rest.{WorldTells}
 use Rattle.rh_swaps.specs.Swaps.{HasReadCell, Swaps}
 use Rattle.rh_swaps.specs.declared.swapping.Outcome.TheVariants.{Done}
 
@@ -28,7 +28,7 @@ pub record HasReadSo (w : World) (side : ℕ → Side) (c word : ℕ) (v : View)
 
 -- So it is at the end of the call and at any later moment of the round, of which the rule tells.
 abbrev pub ReadsTell : Type 0
-ReadsTell = (w : World) (z : Shape) (keep : ℕ → View) (side : ℕ → Side) → Told w z keep side → (c word : ℕ) (v next : View) (newer : List KeptRead)
+ReadsTell = (w : World) (z : Shape) (keep : ℕ → View) (side : ℕ → Side) → WorldTells w z keep side → (c word : ℕ) (v next : View) (newer : List KeptRead)
     → v.worker < z.workers → HasReadCell z c v next (Some word) → (keep v.worker).side.reads ≡ newer ++ next.side.reads → HasReadSo w side c word v
 
 -- ---- a read of an own change
@@ -46,6 +46,6 @@ pub record HasReadBack (w : World) (worker number : ℕ) (x : Entry) (word : ℕ
 
 -- So it is at the end of the read, for any number of workers.
 abbrev pub OwnChangesAreRead : Type 0
-OwnChangesAreRead = (w : World) (z : Shape) (keep : ℕ → View) (side : ℕ → Side) → Told w z keep side → (es : List Entry) (e word : ℕ) (v then next : View)
+OwnChangesAreRead = (w : World) (z : Shape) (keep : ℕ → View) (side : ℕ → Side) → WorldTells w z keep side → (es : List Entry) (e word : ℕ) (v then next : View)
     → AreEntries z es → e < length es → Swaps z es v then Done → HasReadCell z (entry_of es e).cell then next (Some word)
     → next.worker < z.workers → keep next.worker ≡ next → HasReadBack w next.worker v.next_number (entry_of es e) word

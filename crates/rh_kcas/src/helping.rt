@@ -12,7 +12,7 @@ ghost use Rattle.rh_shared.specs.Sits.{StaysTrusted};
 ghost use Rattle.rh_rule.specs.Rest.{made};
 
 use rh_carrier::Steps;
-use rh_helping::{Machine, Progress, state_told};
+use rh_helping::{Machine, Progress, state_by};
 use rh_shared::{OnTable, Seat, Table};
 use rh_tagword::State;
 use rh_words::{Reading, Ref, Request, Shape, Side};
@@ -65,11 +65,11 @@ fn state(shape: &Shape, here: &mut OnTable, side: &mut Side, desc: Ref) -> Optio
     requires { MayHelp shape.now (ref_of desc) here.old side.old.known.view }
     ensures stays { StaysTrusted shape.now here.old here.new side.new.known.view }
     ensures clear { IsClear side.new.known.view }
-    ensures told { StandsOrIsOver side.new.known.view (ref_of desc) result }
+    ensures stands { StandsOrIsOver side.new.known.view (ref_of desc) result }
     ensures facts { HasNoted side.old.known.view side.new.known.view }
 {
     let word = here.make(shape, side, Request::Read(Reading::Control(desc)));
-    state_told(desc, word)
+    state_by(desc, word)
 }
 
 /// A descriptor that stands so is decided: a stale one was left so.

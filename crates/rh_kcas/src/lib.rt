@@ -28,7 +28,7 @@
 //!   hold the old value, or the cell held the word that was read. Among these are all acts that the
 //!   worker had made before the call, and no later one of it; they never get fewer.
 //! - `own_changes_are_read`: a worker reads its own change back, unless another worker's act came
-//!   between. `kcas` and `read` hand on what these laws ask for, as `told`.
+//!   between. `kcas` and `read` hand on what these laws ask for, as `rule_tells`.
 //! - `are_entries`: exactly whether a descriptor may have these entries. `change`: the entry from
 //!   one value to another.
 //! - What is handed on: see the heads of `rh_shared` and `rh_swaps`.

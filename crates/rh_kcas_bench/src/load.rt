@@ -25,9 +25,9 @@ const ENTRIES: usize = 4_000;
 /// The values in the cells stay below this.
 const VALUES: u64 = 1 << 60;
 
-/// What threads tell of a round.
+/// What threads measured of a round.
 #[derive(Clone, Copy)]
-pub struct Told {
+pub struct RoundTime {
     /// How many swaps were carried out.
     pub done: u64,
     /// How many nanoseconds the threads swapped, all their times together, without their starts.
@@ -43,8 +43,8 @@ pub struct Load {
     pub ghost changes: { 0 < entries },
 }
 
-impl<R: Wait + Clock> Work<R, Told> for Load {
-    fn work(&self, rt: &R, table: &Table, seat: Seat) -> (Seat, Told) {
+impl<R: Wait + Clock> Work<R, RoundTime> for Load {
+    fn work(&self, rt: &R, table: &Table, seat: Seat) -> (Seat, RoundTime) {
         let mut seat = seat;
         let first = if self.own {
             seat.side.worker.wrapping_mul(OWN)
@@ -57,14 +57,14 @@ impl<R: Wait + Clock> Work<R, Told> for Load {
             (Ok(start), Ok(end)) => u64::try_from(end.duration_since(start).as_nanos()).unwrap_or(
                 0,
             ),
-            // (no clock can be read: the time is told as nought)
+            // (no clock can be read: the time is taken as nought)
             _ => 0,
         };
-        (seat, Told { done, nanos })
+        (seat, RoundTime { done, nanos })
     }
 
-    fn both(&self, first: Told, second: Told) -> Told {
-        Told {
+    fn both(&self, first: RoundTime, second: RoundTime) -> RoundTime {
+        RoundTime {
             done: first.done.wrapping_add(second.done),
             nanos: first.nanos.wrapping_add(second.nanos),
         }

@@ -9,7 +9,7 @@ mod line;
 mod load;
 
 use line::Line;
-use load::{BITS, Load, Told};
+use load::{BITS, Load, RoundTime};
 use rh_crew::round_of;
 use rh_kcas::{Seat, Table, make};
 use rh_words::{MAX_WORKERS, Rooms, Shape};
@@ -60,10 +60,10 @@ fn carry_out(
     printed.map_err(|_| "cannot write the output")
 }
 
-/// What rounds of swaps told, all together, and the fastest of them.
+/// What rounds of swaps took, all together, and the fastest of them.
 struct Measured {
-    all: Told,
-    fastest: Told,
+    all: RoundTime,
+    fastest: RoundTime,
 }
 
 fn measure(
@@ -76,18 +76,18 @@ fn measure(
         own: line.own,
     };
     let mut seat = seat;
-    let mut all = Told { done: 0, nanos: 0 };
-    let mut fastest = Told {
+    let mut all = RoundTime { done: 0, nanos: 0 };
+    let mut fastest = RoundTime {
         done: 0,
         nanos: u64::MAX,
     };
     for _ in 0..line.rounds {
-        let (next, told) = round_of(rt, &table, seat, line.threads, &load);
+        let (next, took) = round_of(rt, &table, seat, line.threads, &load);
         seat = next;
-        all.done = all.done.wrapping_add(told.done);
-        all.nanos = all.nanos.wrapping_add(told.nanos);
-        if told.nanos < fastest.nanos {
-            fastest = told;
+        all.done = all.done.wrapping_add(took.done);
+        all.nanos = all.nanos.wrapping_add(took.nanos);
+        if took.nanos < fastest.nanos {
+            fastest = took;
         }
     }
     Ok(Measured { all, fastest })

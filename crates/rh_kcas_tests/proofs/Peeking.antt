@@ -17,7 +17,7 @@ use Rattle.rh_words.specs.View.{View}
 use Rattle.rh_carrier.specs.Relies.{Knows}
 use Rattle.rh_rdcss.specs.Calls.{HasStatus, Learned}
 use Rattle.rh_rdcss.specs.Placing.{LengthSays}
-use Rattle.rh_rdcss.proofs.MarksMet.{control_told}
+use Rattle.rh_rdcss.proofs.MarksMet.{state_of_control}
 use Rattle.rh_shared.specs.Rests.{IsRested}
 use Rattle.rh_swaps.proofs.Carried.{over_same}
 use Rattle.rh_kcas.proofs.Helped.{clear_saw}
@@ -42,7 +42,7 @@ count_rested z k next d size says rest =
 module _ (z : Shape) (k next : Sitter) (d : Reference) (state : Option State) (known : IsKnown k.view.side.facts (ref_of d)) (h : HasStatus z d k state next) where
   pub status_saw : (r : Option State) × Saw k.view (ref_of d) r next.view
   status_saw =
-      let r = control_told d.number h.word in
+      let r = state_of_control d.number h.word in
       (r.0, (saw_control k.view (ref_of d) h.word (h.control.finds.1 known) r.0 r.1 _ next.view known h.control.view_is).0)
 
   pub status_rested : IsRested k.view → IsRested next.view

@@ -7,7 +7,7 @@ use Rattle.rh_shared.specs.declared.seat.Seat.{Seat}
 use Rattle.rh_shared.specs.declared.table.Table.{Table}
 
 -- it rests, and saw it as opened
-pub record HasSeen (t : Table) (s : Seat) (d : Ref) : Type 0 where
+pub record HasSeenDesc (t : Table) (s : Seat) (d : Ref) : Type 0 where
   pub rests : SeatRests t s
   pub may : MayPlace t.shape (view_of s) d
 

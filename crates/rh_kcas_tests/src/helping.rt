@@ -23,9 +23,9 @@ const RUNS: usize = 100;
 // The worker that stops goes on by itself where so many Reads tell of no help.
 const READS: usize = 100_000_000;
 
-/// What the two workers tell.
+/// How it ended for the two workers.
 #[derive(Drop)]
-struct Told {
+struct Endings {
     /// The status that the worker that stopped saw last.
     seen: Option<State>,
     /// How its swap ended.
@@ -48,14 +48,14 @@ fn run<R: Threads + Wait + Abort + Sync>(
     rt: &R,
     alloc: Global,
     swaps: bool,
-) -> Result<Told, AllocError> {
+) -> Result<Endings, AllocError> {
     let (table, first, second) = two_workers(rt, alloc, rooms(8, 8), &[0; 8])?;
     let entries = [change(4, 0, 9)];
     let first = stop(rt, &table, first, &entries);
     let ((mut first, seen), (mut second, own)) = both(rt, &table, first, second, &entries, swaps);
     let ended = go_on(rt, &table, &mut first.seat, &entries, first.number);
     let left = value(rt, &table, &mut second, 4);
-    Ok(Told {
+    Ok(Endings {
         seen,
         ended,
         own,
@@ -145,11 +145,11 @@ fn help_at<R: Wait + Abort>(rt: &R, table: &Table, seat: &mut Seat, cell: usize)
 #[test]
 fn who_swaps_the_cell_helps_first(rt: HostRuntime) -> Result<(), Fail> {
     for _ in 0..RUNS {
-        let told = run(&rt, rt.alloc(), true)?;
-        assert_eq!(rt; told.seen, Some(State::Succeeded));
-        assert_eq!(rt; told.ended, Ended::Succeeded);
-        assert_eq!(rt; told.own, Some(Outcome::Failed { entry: 0 }));
-        assert_eq!(rt; told.left, Some(9));
+        let endings = run(&rt, rt.alloc(), true)?;
+        assert_eq!(rt; endings.seen, Some(State::Succeeded));
+        assert_eq!(rt; endings.ended, Ended::Succeeded);
+        assert_eq!(rt; endings.own, Some(Outcome::Failed { entry: 0 }));
+        assert_eq!(rt; endings.left, Some(9));
     }
     Ok(())
 }
@@ -157,10 +157,10 @@ fn who_swaps_the_cell_helps_first(rt: HostRuntime) -> Result<(), Fail> {
 #[test]
 fn who_peeks_at_the_cell_helps(rt: HostRuntime) -> Result<(), Fail> {
     for _ in 0..RUNS {
-        let told = run(&rt, rt.alloc(), false)?;
-        assert_eq!(rt; told.seen, Some(State::Succeeded));
-        assert_eq!(rt; told.ended, Ended::Succeeded);
-        assert_eq!(rt; told.left, Some(9));
+        let endings = run(&rt, rt.alloc(), false)?;
+        assert_eq!(rt; endings.seen, Some(State::Succeeded));
+        assert_eq!(rt; endings.ended, Ended::Succeeded);
+        assert_eq!(rt; endings.left, Some(9));
     }
     Ok(())
 }

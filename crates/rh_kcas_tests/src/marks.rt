@@ -300,7 +300,7 @@ fn the_entries_of_a_descriptor_are_counted(rt: HostRuntime) -> Result<(), Fail> 
 
 // Also by the control of the worker, where that has none yet or is of an earlier descriptor.
 #[test]
-fn a_descriptor_that_is_not_opened_is_told_apart(rt: HostRuntime) -> Result<(), Fail> {
+fn a_descriptor_that_is_not_opened_is_known_as_such(rt: HostRuntime) -> Result<(), Fail> {
     let (table, mut first, mut second, _third, _fourth) = four_workers(&rt, rt.alloc(), &[0; 8])?;
     assert_eq!(rt; status_of(&rt, &table, &mut second, 0), Some(State::Unused));
     let number = opened(&rt, &table, &mut first, &BOTH);

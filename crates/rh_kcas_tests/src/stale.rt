@@ -4,7 +4,7 @@ ghost use Rattle.std.specs.Prelude.{IsTrue};
 ghost use Rattle.rh_words.specs.Steps.{IsKnown};
 ghost use Rattle.rh_words.specs.Words.{ref_of};
 ghost use Rattle.rh_shared.specs.Rests.{SeatKnows, SeatRests};
-ghost use Rattle.rh_kcas_tests.specs.Stale.{HasMet, HasSeen};
+ghost use Rattle.rh_kcas_tests.specs.Stale.{HasMet, HasSeenDesc};
 ghost use Rattle.rh_shared.specs.Seats.{IsHere, view_of};
 ghost use Rattle.rh_carrier.specs.Relies.{Knows};
 
@@ -44,7 +44,7 @@ fn found<R: Abort>(rt: &R, table: &Table, seat: &mut Seat, cell: usize) -> Ref
 fn is_undecided(table: &Table, seat: &mut Seat, desc: Ref) -> bool
     requires rests { SeatRests table.now seat.old }
     requires known { IsKnown (view_of seat.old).side.facts (ref_of desc) }
-    ensures { IsTrue result → HasSeen table.now seat.new desc }
+    ensures { IsTrue result → HasSeenDesc table.now seat.new desc }
 {
     let Some(State::Undecided) = status(table, seat, desc) else {
         return false;
@@ -53,7 +53,7 @@ fn is_undecided(table: &Table, seat: &mut Seat, desc: Ref) -> bool
 }
 
 fn has_an_entry(table: &Table, seat: &mut Seat, desc: Ref) -> bool
-    requires { HasSeen table.now seat.old desc }
+    requires { HasSeenDesc table.now seat.old desc }
     ensures { IsTrue result → HasMet table.now seat.new desc }
 {
     match count_entries(table, seat, desc) {

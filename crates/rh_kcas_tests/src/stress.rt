@@ -1,12 +1,12 @@
 //! Many random swaps by many threads. Each adds to its cells, so that in whatever order the swaps
-//! came, at the end each cell holds what it held at first and all that the workers were told of.
+//! came, at the end each cell holds what it held at first and all that the workers added.
 
 ghost use Rattle.std.specs.Prelude.{◌<◌, ◌≤◌};
 ghost use Rattle.rh_kcas_tests.specs.Rooms.{AreRooms};
 
 use crate::random::{CELLS, add_amounts};
 use crate::tables::*;
-use crate::working::{Swaps, Told};
+use crate::working::{SwapRound, SwapTally};
 use rh_crew::round;
 use rh_kcas::{close, make};
 use rh_words::Rooms;
@@ -33,8 +33,8 @@ const ROUNDS: usize = 50;
 const LOOKS: u64 = 2_000;
 
 /// So many swaps of each worker, and fewer looks than this at a cell before each.
-fn tried(tries: usize, looks: u64) -> Swaps {
-    Swaps {
+fn tried(tries: usize, looks: u64) -> SwapRound {
+    SwapRound {
         seed: 0,
         tries,
         looks,
@@ -48,23 +48,23 @@ fn stress<R: Threads + Wait + Abort + Sync>(
     workers: usize,
     rooms: Rooms,
     rounds: usize,
-    swaps: Swaps,
-) -> Result<Told, AllocError>
+    swaps: SwapRound,
+) -> Result<SwapTally, AllocError>
     requires workers { (0 < workers) × (workers ≤ 8) }
     requires rooms { AreRooms rooms }
 {
     assert!(rt; are_values(&START));
     let (table, seat) = make(alloc, shape(workers, rooms, 0), &START)?;
     let mut seat = seat;
-    let mut all = Told::nothing();
+    let mut all = SwapTally::nothing();
     for number in 0..rounds {
-        let these = Swaps {
+        let these = SwapRound {
             seed: number as u64,
             ..swaps
         };
-        let (next, told) = round(rt, &table, seat, &these);
+        let (next, tally) = round(rt, &table, seat, &these);
         seat = next;
-        all = all.and(&told);
+        all = all.and(&tally);
     }
     let mut left = [0; CELLS];
     close(table, seat, &mut left);
@@ -82,8 +82,8 @@ fn a_million_swaps_by_two_to_eight_threads(rt: HostRuntime) -> Result<(), Fail> 
     for workers in 2..9 {
         let room = rooms(2_000, 8_000);
         let rounds = SWAPS / (workers * TRIES) + 1;
-        let told = stress(&rt, rt.alloc(), workers, room, rounds, tried(TRIES, 0))?;
-        made = made.wrapping_add(told.swaps);
+        let tally = stress(&rt, rt.alloc(), workers, room, rounds, tried(TRIES, 0))?;
+        made = made.wrapping_add(tally.swaps);
     }
     assert!(rt; made >= 1_000_000);
     Ok(())
@@ -96,8 +96,8 @@ fn rounds_of_one_two_and_three_descriptors(rt: HostRuntime) -> Result<(), Fail> 
         for descriptors in 1..4 {
             let room = rooms(descriptors, 8);
             let swaps = tried(descriptors as usize + 1, LOOKS);
-            let told = stress(&rt, rt.alloc(), workers, room, ROUNDS, swaps)?;
-            assert!(rt; told.swaps <= (ROUNDS * workers) as u64 * descriptors);
+            let tally = stress(&rt, rt.alloc(), workers, room, ROUNDS, swaps)?;
+            assert!(rt; tally.swaps <= (ROUNDS * workers) as u64 * descriptors);
         }
     }
     Ok(())
@@ -108,8 +108,8 @@ fn rounds_of_one_two_and_three_descriptors(rt: HostRuntime) -> Result<(), Fail> 
 fn ten_thousand_swaps_of_each_thread_in_one_round(rt: HostRuntime) -> Result<(), Fail> {
     for workers in 2..9 {
         let swaps = tried(10_000, 0);
-        let told = stress(&rt, rt.alloc(), workers, Rooms::usual(), 1, swaps)?;
-        assert_eq!(rt; told.swaps, 10_000 * workers as u64);
+        let tally = stress(&rt, rt.alloc(), workers, Rooms::usual(), 1, swaps)?;
+        assert_eq!(rt; tally.swaps, 10_000 * workers as u64);
     }
     Ok(())
 }

@@ -1,4 +1,4 @@
-//! One worker's many random swaps, and what it is told of them.
+//! One worker's many random swaps, and what comes of them.
 
 ghost use Rattle.std.specs.Prelude.{◌<◌};
 ghost use Rattle.rh_shared.specs.Rests.{SeatRests, StaysAtRest};
@@ -11,9 +11,9 @@ use rh_layout::MAX_KEY;
 use std::process::Abort;
 use std::sync::Wait;
 
-/// What workers were told.
+/// What came of the swaps of some workers.
 #[derive(Drop)]
-pub struct Told {
+pub struct SwapTally {
     /// How many of their swaps were carried out or failed.
     pub swaps: u64,
     /// How many of them were carried out.
@@ -24,9 +24,9 @@ pub struct Told {
     pub wrong: u64,
 }
 
-impl Told {
-    pub fn nothing() -> Told {
-        Told {
+impl SwapTally {
+    pub fn nothing() -> SwapTally {
+        SwapTally {
             swaps: 0,
             done: 0,
             added: [0; CELLS],
@@ -34,8 +34,8 @@ impl Told {
         }
     }
 
-    /// What these and others were told.
-    pub fn and(mut self, other: &Told) -> Told {
+    /// What came of these and of others.
+    pub fn and(mut self, other: &SwapTally) -> SwapTally {
         self.swaps = self.swaps.wrapping_add(other.swaps);
         self.done = self.done.wrapping_add(other.done);
         self.wrong = self.wrong.wrapping_add(other.wrong);
@@ -58,7 +58,7 @@ impl Told {
 
 /// A round of random swaps, which go by a seed.
 #[derive(Clone, Copy)]
-pub struct Swaps {
+pub struct SwapRound {
     pub seed: u64,
     /// How many swaps each worker tries.
     pub tries: usize,
@@ -66,46 +66,46 @@ pub struct Swaps {
     pub looks: u64,
 }
 
-impl<R: Wait + Abort> Work<R, Told> for Swaps {
-    fn work(&self, rt: &R, table: &Table, seat: Seat) -> (Seat, Told) {
+impl<R: Wait + Abort> Work<R, SwapTally> for SwapRound {
+    fn work(&self, rt: &R, table: &Table, seat: Seat) -> (Seat, SwapTally) {
         let mut seat = seat;
         let seed = self.seed.wrapping_add(seat.side.worker as u64);
-        let told = try_swaps(rt, table, &mut seat, Swaps { seed, ..*self });
-        (seat, told)
+        let tally = try_swaps(rt, table, &mut seat, SwapRound { seed, ..*self });
+        (seat, tally)
     }
 
-    fn both(&self, first: Told, second: Told) -> Told {
+    fn both(&self, first: SwapTally, second: SwapTally) -> SwapTally {
         first.and(&second)
     }
 }
 
 /// Tries so many swaps, or fewer where the worker is spent.
-fn try_swaps<R: Wait + Abort>(rt: &R, table: &Table, seat: &mut Seat, swaps: Swaps) -> Told
+fn try_swaps<R: Wait + Abort>(rt: &R, table: &Table, seat: &mut Seat, swaps: SwapRound) -> SwapTally
     requires rests { SeatRests table.now seat.old }
     ensures stays { StaysAtRest table.now seat.old seat.new }
 {
-    let mut told = Told::nothing();
+    let mut tally = SwapTally::nothing();
     let counter = Counter::of(seat.side.worker);
     let mut random = Random::new(swaps.seed);
     let Some(first) = value(rt, table, seat, counter.cell) else {
-        return told;
+        return tally;
     };
     let mut raised = counter.raised(first);
     for tried in 0..swaps.tries {
         look_about(rt, table, seat, random.below(swaps.looks.max(1)));
         let amounts = amounts(&mut random, counter);
         let (outcome, read) = add(rt, table, seat, &amounts, counter.cell);
-        told.note(outcome, &amounts);
+        tally.note(outcome, &amounts);
         if amounts[counter.cell] != 0 {
             if read.is_some_and(|value| counter.raised(value) != raised) {
-                told.wrong = told.wrong.wrapping_add(1);
+                tally.wrong = tally.wrong.wrapping_add(1);
             }
             if outcome == Outcome::Done {
                 raised = raised.wrapping_add(1);
             }
         }
     }
-    told
+    tally
 }
 
 /// Reads an account so often, and helps the swaps that are met there.

@@ -5,7 +5,7 @@ use Rattle.rh_key_files.specs.declared.stream.State.{State}
 use Rattle.rh_key_files.specs.declared.stream.State.TheVariants.{Open, Ended, Failed}
 
 -- the fault that it told
-abbrev pub told_in : State → Option KeyFault
-told_in Open = None
-told_in Ended = None
-told_in (Failed e) = Some e
+abbrev pub fault_in : State → Option KeyFault
+fault_in Open = None
+fault_in Ended = None
+fault_in (Failed e) = Some e

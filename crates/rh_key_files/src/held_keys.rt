@@ -33,9 +33,9 @@ impl KeySource for HeldKeys<'_> {
 
     ghost left_of = { λ held. length (rest_of held) };
 
-    ghost told_by = { λ _. None };
+    ghost failed_with = { λ _. None };
 
-    fn left(&self) -> u64 {
+    fn keys_left(&self) -> u64 {
         self.rest.len() as u64
     }
 

@@ -16,9 +16,9 @@ pub trait KeySource {
     ghost left_of: { Self → ℕ };
 
     /// The fault that it told, if it told one.
-    ghost told_by: { Self → Option KeyFault };
+    ghost failed_with: { Self → Option KeyFault };
 
-    fn left(&self) -> u64
+    fn keys_left(&self) -> u64
         ensures { result ≡ left_of self.now };
 
     /// Puts the next keys at the front of the batch and answers how many they are: 0 only at the
@@ -26,8 +26,8 @@ pub trait KeySource {
     fn next_keys(&mut self, batch: &mut [u64]) -> Result<usize, KeyFault>
         requires { 0 < length batch.old }
         ensures gives { Gives (coming self.old) (coming self.new) batch.new result }
-        ensures told { IfErr result (λ e. told_by self.new ≡ Some e) }
-        ensures fine { OnOk result (told_by self.new ≡ told_by self.old) }
+        ensures told { IfErr result (λ e. failed_with self.new ≡ Some e) }
+        ensures fine { OnOk result (failed_with self.new ≡ failed_with self.old) }
         ensures room { IfOk result (λ n. n ≤ length batch.new) }
         ensures left { IfOk result (λ n. left_of self.old ≡ left_of self.new + n) }
         ensures ends { IfOk result (λ n. n ≡ 0 → left_of self.old ≡ 0) }

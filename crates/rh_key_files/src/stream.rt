@@ -5,7 +5,7 @@ ghost use Rattle.rh_bytes.specs.Counting.{failures_of};
 ghost use Rattle.rh_key_files.specs.declared.fault.KeyFault.TheVariants.{Memory, Read as ReadFailed};
 ghost use Rattle.rh_layout.specs.declared.limits.TheConstants.{MAX_KEYS};
 ghost use Rattle.rh_key_files.specs.declared.stream.State.TheVariants.{Failed};
-ghost use Rattle.rh_key_files.specs.State.{told_in};
+ghost use Rattle.rh_key_files.specs.State.{fault_in};
 
 use crate::batch::read_batch;
 use crate::fault::KeyFault;
@@ -34,12 +34,12 @@ pub struct KeyStream<'a, R> {
     ghost within: { taken ≤ count },
     ghost few: { count ≤ MAX_KEYS },
     ghost no_memory: { state ≢ Failed Memory },
-    ghost blamed: { told_in state ≡ Some ReadFailed → failures_of reader.now ≢ 0 },
+    ghost blamed: { fault_in state ≡ Some ReadFailed → failures_of reader.now ≢ 0 },
 }
 
 impl<R: Read> KeyStream<'_, R> {
     ghost use Rattle.std.specs.Prelude.{◌≡◌, ◌≢◌, ◌⊎◌, ◌<◌, length, IfOk, IsErrOf};
-    ghost use Rattle.rh_key_files.specs.State.{told_in};
+    ghost use Rattle.rh_key_files.specs.State.{fault_in};
     ghost use Rattle.std.specs.Prelude.{All, take, drop};
     ghost use Rattle.rh_layout.specs.Key.{IsKey};
     ghost use Rattle.rh_bytes.specs.Counting.{Rose, failures_of};
@@ -51,7 +51,7 @@ impl<R: Read> KeyStream<'_, R> {
     /// The reader that it took on loan. It has failed where the stream told so.
     pub fn reader(&self) -> &Counted<R>
         ensures value { result.now ≡ reader_of self.now }
-        ensures blamed { told_in (state_of self.now) ≡ Some KeyFault.Read →
+        ensures blamed { fault_in (state_of self.now) ≡ Some KeyFault.Read →
             failures_of result.now ≢ 0 }
     {
         self.reader
@@ -103,16 +103,16 @@ impl<R: Read> KeyStream<'_, R> {
 }
 
 impl<R: Read> KeySource for KeyStream<'_, R> {
-    ghost use Rattle.rh_key_files.specs.State.{told_in};
+    ghost use Rattle.rh_key_files.specs.State.{fault_in};
     ghost use Rattle.rh_key_files.specs.Stream.{coming_of, left_in, left_of, state_of};
 
     ghost coming = { coming_of R.remaining };
 
     ghost left_of = { λ s. left_in (state_of s) (left_of s) };
 
-    ghost told_by = { λ s. told_in (state_of s) };
+    ghost failed_with = { λ s. fault_in (state_of s) };
 
-    fn left(&self) -> u64 {
+    fn keys_left(&self) -> u64 {
         match self.state {
             State::Open => self.count - self.taken,
             State::Ended | State::Failed(_) => 0,

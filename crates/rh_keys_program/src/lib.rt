@@ -32,7 +32,7 @@ mod status;
 mod streams;
 
 pub use lists::{bytes_of, times_named, with_path, workers_of};
-pub use progress::Line;
+pub use progress::ProgressLine;
 pub use splitting::{parts_asked, plan_streams, split_streams};
 pub use status::{Fault, Reason, conclude, tell};
 pub use streams::{list_input, list_paths, pack_streams};

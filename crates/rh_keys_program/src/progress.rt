@@ -13,7 +13,7 @@ const MEGABYTE: u64 = 1_000_000;
 
 /// A line on standard error that tells how far work is. Where that is no terminal it shows nothing.
 #[derive(Drop)]
-pub struct Line<'a, R> {
+pub struct ProgressLine<'a, R> {
     rt: &'a R,
     /// When the line may be shown next, where it may be shown at all.
     next: Option<Instant>,
@@ -23,10 +23,10 @@ pub struct Line<'a, R> {
     total: Option<u64>,
 }
 
-impl<'a, R: Clock + Eprint> Line<'a, R> {
-    pub fn new(rt: &'a R, on_terminal: bool, total: Option<u64>) -> Line<'a, R> {
+impl<'a, R: Clock + Eprint> ProgressLine<'a, R> {
+    pub fn new(rt: &'a R, on_terminal: bool, total: Option<u64>) -> ProgressLine<'a, R> {
         let next = if on_terminal { first_time(rt) } else { None };
-        Line {
+        ProgressLine {
             rt,
             next,
             is_shown: false,
@@ -65,7 +65,7 @@ fn first_time(rt: &impl Clock) -> Option<Instant> {
     now.checked_add(Duration::from_millis(FIRST_AFTER))
 }
 
-impl<R: Clock + Eprint> Progress for Line<'_, R> {
+impl<R: Clock + Eprint> Progress for ProgressLine<'_, R> {
     fn read(&mut self, bytes: usize) {
         self.read = self.read.saturating_add(bytes as u64);
         if !self.is_due() {

@@ -10,7 +10,7 @@ use Rattle.rh_numbers.specs.Chunks.{EndsLine, ReadsTo, goes_on, last_of}
 use Rattle.rh_numbers.specs.Reading.{said_from}
 use Rattle.rh_numbers.proofs.Chunks.{last_of_rest}
 use Rattle.rh_lists.specs.Parts.{IsPartOf, IsReadTo, said_last, end_of_part}
-use Rattle.rh_lists.specs.declared.part.Part.{Part}
+use Rattle.rh_lists.specs.declared.part.ListPart.{ListPart}
 
 module _ (so_far : LineSoFar) (front back keys : List ℕ) (lines : ℕ) (end : ChunkEnd) (first : ReadsTo so_far front keys lines end) where
   pub one_behind_the_other : (later : LineSoFar) (more all : List ℕ) (others : ℕ) (last : ChunkEnd) → end ≡ Open later → all ≡ keys ++ more → ReadsTo (said_last end) back more others last → ReadsTo so_far (front ++ back) all (lines + others) last
@@ -34,7 +34,7 @@ starts_anew (Open so_far) is = is
 starts_anew (Bad bad) is = refl
 
 -- both parts are read apart, and joined
-pub both_read : {E : Type 0} (so_far : LineSoFar) (bytes front back : List ℕ) (at : ℕ) (first second : Part) (r : Result Part E) → front ≡ take at bytes → back ≡ drop at bytes → front ++ back ≡ bytes → 0 < at → at < length bytes
+pub both_read : {E : Type 0} (so_far : LineSoFar) (bytes front back : List ℕ) (at : ℕ) (first second : ListPart) (r : Result ListPart E) → front ≡ take at bytes → back ≡ drop at bytes → front ++ back ≡ bytes → 0 < at → at < length bytes
     → slice_index bytes (at - 1) ≡ 10 → IsPartOf so_far front first → IsPartOf Start back second
     → IfOk r (λ both. (so_far : LineSoFar) (front back : List ℕ) → IsReadTo so_far front first → IsReadTo (end_of_part first) back second → IsReadTo so_far (front ++ back) both)
     → IfOk r (λ both. both.lines ≤ first.lines + second.lines) → IfOk r (λ both. EndsLine second.end → EndsLine both.end) → IfOk r (IsPartOf so_far bytes)

@@ -13,16 +13,16 @@ use Rattle.rh_numbers.specs.declared.limits.TheConstants.{MAX_BYTES}
 use Rattle.rh_numbers.specs.Chunks.{EndsLine, ReadsTo, last_of}
 use Rattle.rh_numbers.specs.Reading.{Said, text_said}
 use Rattle.rh_pieces.specs.declared.list.KeyList.{KeyList}
-use Rattle.rh_lists.specs.declared.part.Part.{Part}
+use Rattle.rh_lists.specs.declared.part.ListPart.{ListPart}
 use Rattle.rh_pieces.specs.Pieces.{keys_in}
 use Rattle.rh_lists.specs.Lists.{HasBytes, HasNoFault, TakesNoFault, is_text_silent}
 
 -- Where the line has said this so far, these bytes are read to the part, whatever stands before them and comes after them.
-abbrev pub IsReadTo : LineSoFar → List ℕ → Part → Type 0
+abbrev pub IsReadTo : LineSoFar → List ℕ → ListPart → Type 0
 IsReadTo so_far bytes part = ReadsTo so_far bytes (keys_in part.keys) part.lines part.end
 
 -- so a worker reads them: there are no more lines than bytes, and where these end a line the part does
-pub record IsPartOf (so_far : LineSoFar) (bytes : List ℕ) (part : Part) : Type 0 where
+pub record IsPartOf (so_far : LineSoFar) (bytes : List ℕ) (part : ListPart) : Type 0 where
   pub read : IsReadTo so_far bytes part
   pub lines : part.lines ≤ length bytes
   pub whole : last_of bytes ≡ 10 → EndsLine part.end
@@ -32,7 +32,7 @@ abbrev pub said_last : ChunkEnd → LineSoFar
 said_last (Open so_far) = so_far
 said_last (Bad bad) = Start
 
-abbrev pub end_of_part : Part → LineSoFar
+abbrev pub end_of_part : ListPart → LineSoFar
 end_of_part part = said_last part.end
 
 -- no line of it is bad
@@ -65,7 +65,7 @@ pub record AnswersText {R : Type 0} (remaining : R → Option (List ℕ)) (begun
   pub long : IsErrOf r texts.TooLong → HasBytes MAX_BYTES (remaining (inner_of old))
 
 -- What is answered of a text of which these bytes come last, behind the part: nothing comes behind them, or a read failed there.
-pub record EndsText (text : Part) (last : List ℕ) (failed : Bool) (r : Result KeyList TextFault) : Type 0 where
+pub record EndsText (text : ListPart) (last : List ℕ) (failed : Bool) (r : Result KeyList TextFault) : Type 0 where
   pub told : (before rest : List ℕ) → IsReadTo Start before text → (IsFalse failed → rest ≡ []) → TellsText (text_said ((before ++ last) ++ rest)) r
   pub tested : IsErrOf r texts.Read → (before : List ℕ) → IsReadTo Start before text → HasNoFault (before ++ last)
   pub read : IsErrOf r texts.Read → IsTrue failed

@@ -5,7 +5,7 @@ ghost use Rattle.std.specs.Prelude.{◌≡◌, ◌<◌, ◌-◌, ◌+◌, IfOk, 
 ghost use Rattle.rh_lists.specs.Ahead.{IsFilled};
 ghost use Rattle.rh_lists.specs.Parts.{IsPartOf};
 
-use crate::part::Part;
+use crate::part::ListPart;
 use crate::workers::line_from;
 use rh_bytes::{Counted, Filled, fill_front};
 use rh_forks::{Team, Workers};
@@ -22,12 +22,12 @@ pub(crate) fn read_ahead<T: Threads + Sync, R: Read>(
     block: &[u8],
     reader: &mut Counted<R>,
     next: &mut [u8],
-) -> (Result<Part, AllocError>, Filled)
+) -> (Result<ListPart, AllocError>, Filled)
     ensures part { IfOk result.0 (IsPartOf so_far block.now) }
     ensures filled { IsFilled R.remaining reader.old reader.new next.new result.1 }
 {
     if team.workers.count == 1 {
-        let part = Part::read(team.alloc, so_far, block);
+        let part = ListPart::read(team.alloc, so_far, block);
         let filled = fill_front(reader, next);
         return (part, filled);
     }
@@ -43,7 +43,7 @@ fn read_pieces<T: Threads + Sync, R: Read>(
     block: &[u8],
     reader: &mut Counted<R>,
     next: &mut [u8],
-) -> (Result<Part, AllocError>, Filled)
+) -> (Result<ListPart, AllocError>, Filled)
     ensures part { IfOk result.0 (IsPartOf so_far block.now) }
     ensures filled { IsFilled R.remaining reader.old reader.new next.new result.1 }
 {
@@ -52,10 +52,10 @@ fn read_pieces<T: Threads + Sync, R: Read>(
     };
     let (front, back) = block.split_at(at);
     let Team { rt, alloc, .. } = *team;
-    let mut theirs = || -> Result<Part, AllocError>
+    let mut theirs = || -> Result<ListPart, AllocError>
         ensures { IfOk result (IsPartOf so_far front.entry.now) }
-    { Part::read(alloc, so_far, front) };
-    let mut ours = || -> (Result<Part, AllocError>, Filled)
+    { ListPart::read(alloc, so_far, front) };
+    let mut ours = || -> (Result<ListPart, AllocError>, Filled)
         requires { IsSync T.row }
         ensures { IfOk result.0 (IsPartOf LineSoFar.Start back.entry.now)
             × IsFilled R.remaining reader.entry.now reader.exit.now next.exit.now result.1 }
@@ -77,16 +77,16 @@ fn read_last<T: Threads + Sync, R: Read>(
     piece: &[u8],
     reader: &mut Counted<R>,
     next: &mut [u8],
-) -> (Result<Part, AllocError>, Filled)
+) -> (Result<ListPart, AllocError>, Filled)
     ensures part { IfOk result.0 (IsPartOf so_far piece.now) }
     ensures filled { IsFilled R.remaining reader.old reader.new next.new result.1 }
 {
     let Team { rt, alloc, .. } = *team;
     join_mut(
         rt,
-        &mut || -> Result<Part, AllocError>
+        &mut || -> Result<ListPart, AllocError>
             ensures { IfOk result (IsPartOf so_far piece.entry.now) }
-        { Part::read(alloc, so_far, piece) },
+        { ListPart::read(alloc, so_far, piece) },
         &mut || -> Filled
             ensures { IsFilled R.remaining reader.entry.now reader.exit.now next.exit.now result }
         { fill_front(reader, next) },

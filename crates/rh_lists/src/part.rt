@@ -17,16 +17,20 @@ use std::alloc::{AllocError, Global};
 
 /// What a part of a text says, up to its first bad line.
 #[derive(Drop)]
-pub(crate) struct Part {
+pub(crate) struct ListPart {
     pub keys: KeyList,
     /// The line feeds up to its end, or up to its bad line.
     pub lines: u64,
     pub end: ChunkEnd,
 }
 
-impl Part {
+impl ListPart {
     /// Reads the bytes, before which the line has said so much.
-    pub(crate) fn read(alloc: Global, so_far: LineSoFar, bytes: &[u8]) -> Result<Part, AllocError>
+    pub(crate) fn read(
+        alloc: Global,
+        so_far: LineSoFar,
+        bytes: &[u8],
+    ) -> Result<ListPart, AllocError>
         ensures { IfOk result (IsPartOf so_far bytes.now) }
     {
         let Chunk {
@@ -36,11 +40,11 @@ impl Part {
         } = read_chunk(alloc, so_far, bytes)?;
         let mut keys = KeyList::new(alloc);
         keys.push(piece)?;
-        Ok(Part { keys, lines, end })
+        Ok(ListPart { keys, lines, end })
     }
 
     /// What both say, one after the other. Behind a bad line nothing is said.
-    pub(crate) fn then(self, next: Part) -> Result<Part, AllocError>
+    pub(crate) fn then(self, next: ListPart) -> Result<ListPart, AllocError>
         requires { self.lines + next.lines < 2 ^ 64 }
         ensures read { IfOk result (λ both. (so_far : LineSoFar) (front back : List ℕ) →
             IsReadTo so_far front self → IsReadTo (end_of_part self) back next →
@@ -51,18 +55,18 @@ impl Part {
         if let ChunkEnd::Bad(_) = self.end {
             return Ok(self);
         }
-        let Part {
+        let ListPart {
             mut keys,
             lines,
             ..
         } = self;
-        let Part {
+        let ListPart {
             keys: more,
             lines: others,
             end,
         } = next;
         keys.append(more)?;
-        Ok(Part {
+        Ok(ListPart {
             keys,
             lines: lines + others,
             end,
@@ -95,7 +99,7 @@ impl Part {
     }
 
     /// The text with this part behind it, where none of its lines is bad.
-    pub(crate) fn more(self, next: Part) -> Result<Part, TextFault>
+    pub(crate) fn more(self, next: ListPart) -> Result<ListPart, TextFault>
         requires { self.lines + next.lines + 1 < 2 ^ 64 }
         ensures read { MatchResult result
             (λ text. (before bytes : List ℕ) → IsReadTo Start before self →
@@ -124,7 +128,7 @@ impl Part {
             TellsText (text_said bytes) result }
         ensures held { IfErr result OfHeldBytes }
     {
-        let Part { keys, lines, end } = self;
+        let ListPart { keys, lines, end } = self;
         let so_far = match end {
             ChunkEnd::Open(so_far) => so_far,
             ChunkEnd::Bad(bad) => return Err(bad.in_line(1 + lines)),

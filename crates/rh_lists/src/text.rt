@@ -9,7 +9,7 @@ ghost use Rattle.rh_lists.specs.declared.limits.TheConstants.{BLOCK_BYTES, FIRST
 
 use crate::ahead::read_ahead;
 use crate::limits::{BLOCK_BYTES, FIRST_BYTES};
-use crate::part::Part;
+use crate::part::ListPart;
 use crate::workers::read_part;
 use rh_bytes::{Counted, Filled, Progress, fill_front};
 use rh_forks::Team;
@@ -26,7 +26,7 @@ pub(crate) fn read_short_text(alloc: Global, bytes: &[u8]) -> Result<KeyList, Te
     ensures told { TellsText (text_said bytes.now) result }
     ensures held { IfErr result OfHeldBytes }
 {
-    let Ok(text) = Part::read(alloc, LineSoFar::Start, bytes) else {
+    let Ok(text) = ListPart::read(alloc, LineSoFar::Start, bytes) else {
         return Err(TextFault::Memory);
     };
     text.end_text(alloc)
@@ -45,7 +45,7 @@ pub(crate) fn read_text<T: Threads + Sync, R: Read, P: Progress>(
     requires begun { length begun.now ≤ FIRST_BYTES }
     ensures { AnswersText R.remaining begun.now reader.old reader.new result }
 {
-    let Ok(front) = Part::read(team.alloc, LineSoFar::Start, begun) else {
+    let Ok(front) = ListPart::read(team.alloc, LineSoFar::Start, begun) else {
         return Err(TextFault::Memory);
     };
     let Ok(mut first) = vec![in team.alloc; 0u8; block_bytes.min(FIRST_BYTES)] else {
@@ -56,7 +56,7 @@ pub(crate) fn read_text<T: Threads + Sync, R: Read, P: Progress>(
     if count < first.len() {
         return last_block(&team.alone(), front, &first[..count], failed);
     }
-    let Ok(part) = Part::read(team.alloc, front.so_far(), &first) else {
+    let Ok(part) = ListPart::read(team.alloc, front.so_far(), &first) else {
         return Err(TextFault::Memory);
     };
     let text = front.more(part)?;
@@ -67,7 +67,7 @@ pub(crate) fn read_text<T: Threads + Sync, R: Read, P: Progress>(
 fn read_on<T: Threads + Sync, R: Read, P: Progress>(
     team: &Team<'_, T>,
     block_bytes: usize,
-    text: Part,
+    text: ListPart,
     reader: &mut Counted<R>,
     progress: &mut P,
 ) -> Result<KeyList, TextFault>
@@ -91,7 +91,7 @@ fn read_on<T: Threads + Sync, R: Read, P: Progress>(
 /// are as long.
 fn read_blocks<T: Threads + Sync, R: Read, P: Progress>(
     team: &Team<'_, T>,
-    begun: Part,
+    begun: ListPart,
     mut block: Vec<u8>,
     reader: &mut Counted<R>,
     progress: &mut P,
@@ -132,7 +132,7 @@ fn read_blocks<T: Threads + Sync, R: Read, P: Progress>(
 /// Reads the last bytes of a text, behind which a read failed, or nothing comes.
 fn last_block<T: Threads + Sync>(
     team: &Team<'_, T>,
-    text: Part,
+    text: ListPart,
     bytes: &[u8],
     failed: bool,
 ) -> Result<KeyList, TextFault>

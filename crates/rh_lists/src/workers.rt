@@ -4,7 +4,7 @@ ghost use Rattle.std.specs.Thread.{IsSync};
 ghost use Rattle.std.specs.Prelude.{◌≡◌, ◌<◌, ◌-◌, IfOk, IfSome, length, slice_index};
 ghost use Rattle.rh_lists.specs.Parts.{IsPartOf};
 
-use crate::part::Part;
+use crate::part::ListPart;
 use rh_forks::{Team, both};
 use rh_numbers::LineSoFar;
 use std::alloc::AllocError;
@@ -31,18 +31,18 @@ pub(crate) fn read_part<T: Threads + Sync>(
     team: &Team<'_, T>,
     so_far: LineSoFar,
     bytes: &[u8],
-) -> Result<Part, AllocError>
+) -> Result<ListPart, AllocError>
     ensures { IfOk result (IsPartOf so_far bytes.now) }
 {
     let Team { rt, alloc, workers } = *team;
     let Some((first, others)) = workers.halves() else {
-        return Part::read(alloc, so_far, bytes);
+        return ListPart::read(alloc, so_far, bytes);
     };
     let Some(at) = line_from(bytes, bytes.len() / workers.count * first.count) else {
-        return Part::read(alloc, so_far, bytes);
+        return ListPart::read(alloc, so_far, bytes);
     };
     let (front, back) = bytes.split_at(at);
-    let theirs = move || -> Result<Part, AllocError>
+    let theirs = move || -> Result<ListPart, AllocError>
         requires { IsSync T.row }
         ensures { IfOk result (IsPartOf so_far front.entry.now) }
     {
@@ -53,7 +53,7 @@ pub(crate) fn read_part<T: Threads + Sync>(
         };
         read_part(&half, so_far, front)
     };
-    let ours = move || -> Result<Part, AllocError>
+    let ours = move || -> Result<ListPart, AllocError>
         requires { IsSync T.row }
         ensures { IfOk result (IsPartOf LineSoFar.Start back.entry.now) }
     {

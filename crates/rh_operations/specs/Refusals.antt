@@ -7,7 +7,7 @@ use Rattle.rh_snapshot.specs.declared.fault.SnapFault.TheVariants as snap_faults
 use Rattle.rh_key_files.specs.Source.{Coming}
 use Rattle.rh_shelf.specs.Shelf.{ShelfState}
 use Rattle.rh_runner.specs.declared.fault.ListFault.{ListFault}
-use Rattle.rh_runner.specs.Lists.{Refused, Took}
+use Rattle.rh_runner.specs.Lists.{IsWhyRefused, Took}
 use Rattle.rh_operations.specs.Causes.{of_list}
 use Rattle.rh_operations.specs.Outside.{Outside}
 use Rattle.rh_operations.specs.declared.cause.Cause.{Cause}
@@ -66,7 +66,7 @@ PhaseFails old new cause = ListFails old.shelf new.shelf cause
 
 -- They were not gone through: a fault of theirs came, or one of a phase.
 abbrev pub FaultOn : Coming → (starts starts' : ℕ) → Cause → Type 0
-FaultOn coming n m cause = (fault : ListFault) × (cause ≡ of_list fault) × Refused coming n m fault
+FaultOn coming n m cause = (fault : ListFault) × (cause ≡ of_list fault) × IsWhyRefused coming n m fault
 
 -- Nothing was made of them: there is no table of a size for them; or after that they were not gone through, or memory ran out; or
 -- nothing can be made of those that came.

@@ -98,10 +98,10 @@ fn act<T: Threads + Wait + Sync, N: Runner, K: KeySource>(
 ) -> Result<Done, Cause>
     ensures again { OnOk result (K.left_of keys.old ≡ noted) }
     ensures acts { Acts (means action set.old) (room_at action set.old noted (K.left_of keys.old))
-        set.old set.new (K.coming keys.old) (K.left_of keys.old) (K.told_by keys.new)
+        set.old set.new (K.coming keys.old) (K.left_of keys.old) (K.failed_with keys.new)
         (N.refused_starts runner.old) (N.refused_starts runner.new) result }
 {
-    if keys.left() != noted {
+    if keys.keys_left() != noted {
         return Err(Cause::Changed);
     }
     match action {

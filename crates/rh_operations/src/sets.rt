@@ -87,12 +87,12 @@ fn look_through<T: Threads + Wait + Sync, N: Runner, K: KeySource>(
     ensures found { IfOk result (λ seen. seen.1.items ≡ looked_up set.now.keys seen.0.items) }
     ensures refused { IfErr result (FaultOn (K.coming keys.old) (N.refused_starts runner.old)
         (N.refused_starts runner.new)) }
-    ensures told { IfErr result (TellsKeys (K.told_by keys.new)) }
+    ensures told { IfErr result (TellsKeys (K.failed_with keys.new)) }
     ensures own { IfErr result IsOfKeys }
     ensures runner { KeepsRunner (N.refused_starts runner.old) (N.refused_starts runner.new)
         result }
 {
-    let mut list = vec![in host.alloc; 0; keys.left() as usize]?;
+    let mut list = vec![in host.alloc; 0; keys.keys_left() as usize]?;
     take_all(keys, &mut list)?;
     let found = runner.ask(host.rt, host.alloc, set.bits(), set.cells(), &list)?;
     Ok((list, found))
@@ -106,10 +106,10 @@ pub(crate) fn add_keys<T: Threads + Wait + Sync, N: Runner, K: KeySource>(
     keys: &mut K,
 ) -> Result<Done, Cause>
     ensures { Acts (means Add set.old) (room_for Add set.old (K.left_of keys.old)) set.old set.new
-        (K.coming keys.old) (K.left_of keys.old) (K.told_by keys.new)
+        (K.coming keys.old) (K.left_of keys.old) (K.failed_with keys.new)
         (N.refused_starts runner.old) (N.refused_starts runner.new) result }
 {
-    let mut scratch = grow_table(host.alloc, set, keys.left())?;
+    let mut scratch = grow_table(host.alloc, set, keys.keys_left())?;
     let tally = change_all(host, runner, Kind::Insert, &mut scratch, keys)?;
     *set = SeqSet::from_cells(scratch.bits, scratch.cells);
     Ok(Done::Changed(Change::Added(tally.added)))
@@ -123,7 +123,7 @@ pub(crate) fn drop_keys<T: Threads + Wait + Sync, N: Runner, K: KeySource>(
     keys: &mut K,
 ) -> Result<Done, Cause>
     ensures { Acts (means Drop set.old) (room_for Drop set.old (K.left_of keys.old)) set.old set.new
-        (K.coming keys.old) (K.left_of keys.old) (K.told_by keys.new)
+        (K.coming keys.old) (K.left_of keys.old) (K.failed_with keys.new)
         (N.refused_starts runner.old) (N.refused_starts runner.new) result }
 {
     let mut scratch = copy_table(host.alloc, set)?;
@@ -141,7 +141,7 @@ pub(crate) fn keep_keys<T: Threads + Wait + Sync, N: Runner, K: KeySource>(
     keys: &mut K,
 ) -> Result<Done, Cause>
     ensures { Acts (means Keep set.old) (room_for Keep set.old (K.left_of keys.old)) set.old set.new
-        (K.coming keys.old) (K.left_of keys.old) (K.told_by keys.new)
+        (K.coming keys.old) (K.left_of keys.old) (K.failed_with keys.new)
         (N.refused_starts runner.old) (N.refused_starts runner.new) result }
 {
     let (mut taken, found) = look_through(host, runner, set, keys)?;
@@ -162,7 +162,7 @@ pub(crate) fn flip_keys<T: Threads + Wait + Sync, N: Runner, K: KeySource>(
     keys: &mut K,
 ) -> Result<Done, Cause>
     ensures { Acts (means Flip set.old) (room_for Flip set.old (K.left_of keys.old)) set.old set.new
-        (K.coming keys.old) (K.left_of keys.old) (K.told_by keys.new)
+        (K.coming keys.old) (K.left_of keys.old) (K.failed_with keys.new)
         (N.refused_starts runner.old) (N.refused_starts runner.new) result }
 {
     let (mut taken, found) = look_through(host, runner, set, keys)?;
@@ -183,7 +183,7 @@ pub(crate) fn ask_keys<T: Threads + Wait + Sync, N: Runner, K: KeySource>(
     keys: &mut K,
 ) -> Result<Done, Cause>
     ensures { Acts (means Ask set.now) (room_for Ask set.now (K.left_of keys.old)) set.now set.now
-        (K.coming keys.old) (K.left_of keys.old) (K.told_by keys.new)
+        (K.coming keys.old) (K.left_of keys.old) (K.failed_with keys.new)
         (N.refused_starts runner.old) (N.refused_starts runner.new) result }
 {
     Ok(Done::Asked(ask_all(host, runner, set.bits(), set.cells(), keys)?))

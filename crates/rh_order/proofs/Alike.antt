@@ -31,16 +31,16 @@ core_alike w z words keep next same core =
     }
 
 doing_alike : (r s : Run) (v : ℕ) (acts : List Act) (reads : List KeptWord) → AreAlike r s v → (kind : Kind) (z : Shape)
-    → ProgressInvariant z kind (record { view = r.keep v; keys = r.keys v; acts = acts; reads = reads; done = r.done v; told = r.told v })
-    → ProgressInvariant z kind (record { view = s.keep v; keys = s.keys v; acts = acts; reads = reads; done = s.done v; told = s.told v })
+    → ProgressInvariant z kind (record { view = r.keep v; keys = r.keys v; acts = acts; reads = reads; done = r.done v; answers = r.answers v })
+    → ProgressInvariant z kind (record { view = s.keep v; keys = s.keys v; acts = acts; reads = reads; done = s.done v; answers = s.answers v })
 doing_alike r s v acts reads alike kind z is =
-    subst (λ (x : View). ProgressInvariant z kind (record { view = x; keys = s.keys v; acts = acts; reads = reads; done = s.done v; told = s.told v })) alike.kept
-    (subst (λ (x : List ℕ). ProgressInvariant z kind (record { view = r.keep v; keys = x; acts = acts; reads = reads; done = s.done v; told = s.told v })) alike.keys_are
-    (subst (λ (x : List ℕ). ProgressInvariant z kind (record { view = r.keep v; keys = r.keys v; acts = acts; reads = reads; done = x; told = s.told v })) alike.done_are
-    (subst (λ (x : List Bool). ProgressInvariant z kind (record { view = r.keep v; keys = r.keys v; acts = acts; reads = reads; done = r.done v; told = x })) alike.told_are is)))
+    subst (λ (x : View). ProgressInvariant z kind (record { view = x; keys = s.keys v; acts = acts; reads = reads; done = s.done v; answers = s.answers v })) alike.kept
+    (subst (λ (x : List ℕ). ProgressInvariant z kind (record { view = r.keep v; keys = x; acts = acts; reads = reads; done = s.done v; answers = s.answers v })) alike.keys_are
+    (subst (λ (x : List ℕ). ProgressInvariant z kind (record { view = r.keep v; keys = r.keys v; acts = acts; reads = reads; done = x; answers = s.answers v })) alike.done_are
+    (subst (λ (x : List Bool). ProgressInvariant z kind (record { view = r.keep v; keys = r.keys v; acts = acts; reads = reads; done = r.done v; answers = x })) alike.answers_are is)))
 
 pub runs_alike : RunsAlike
-runs_alike r keep keys done told alike run = record {
+runs_alike r keep keys done answers alike run = record {
   world = run.world;
   core = core_alike run.world r.shape r.words r.keep keep (λ v mine. (alike v mine).kept) run.core;
   before = run.before;
@@ -50,5 +50,5 @@ runs_alike r keep keys done told alike run = record {
   workers = run.workers;
   acts = λ m h. subst (λ (x : List ℕ). DoesOneOf r.kind r.shape.bits x m.act) (alike m.worker (run.workers m h)).keys_are (run.acts m h);
   was = run.was;
-  doing = λ v mine. doing_alike r (record r { keep = keep; keys = keys; done = done; told = told }) v _ (run.reads v) (alike v mine) r.kind r.shape (run.doing v mine);
+  doing = λ v mine. doing_alike r (record r { keep = keep; keys = keys; done = done; answers = answers }) v _ (run.reads v) (alike v mine) r.kind r.shape (run.doing v mine);
 }

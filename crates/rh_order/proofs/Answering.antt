@@ -31,5 +31,5 @@ run_answers r S run layout asks v mine =
     let acts : List Act = own v run.before ++ own_acts_of (r.keep v) in
     let made : List Made = all_made r run in
     let held = held_without_acts r.opening (acts_of made) reads (ap acts_of (no_acts r run asks)) (was r run v mine) in
-    let is : IsDone Ask r.shape.bits reads (r.done v) acts (r.told v) = subst (λ (k : Kind). IsDone k r.shape.bits reads (r.done v) acts (r.told v)) asks (run.doing v mine).so_far in
-    piece_asked r.shape.bits r.opening S reads (r.done v) acts (r.told v) layout held is
+    let is : IsDone Ask r.shape.bits reads (r.done v) acts (r.answers v) = subst (λ (k : Kind). IsDone k r.shape.bits reads (r.done v) acts (r.answers v)) asks (run.doing v mine).so_far in
+    piece_asked r.shape.bits r.opening S reads (r.done v) acts (r.answers v) layout held is

@@ -35,12 +35,12 @@ same_sums s t (suc n) same =
     let last : s n ≡ t n = same n (omega arith) in
     λ i. sum_of (rest i) (last i)
 
-done_as : (kind : Kind) (b : ℕ) (reads more : List Kept) (keys list : List ℕ) (acts made : List Act) (answers told : List Bool)
-    → reads ≡ more → keys ≡ list → acts ≡ made → answers ≡ told → IsDone kind b reads keys acts answers → IsDone kind b more list made told
-done_as kind b reads more keys list acts made answers told p q r s h =
-    subst (λ (x : List Kept). IsDone kind b x list made told) p
-    (subst (λ (x : List ℕ). IsDone kind b reads x made told) q
-    (subst (λ (x : List Act). IsDone kind b reads keys x told) r
+done_as : (kind : Kind) (b : ℕ) (reads more : List Kept) (keys list : List ℕ) (acts made : List Act) (answers others : List Bool)
+    → reads ≡ more → keys ≡ list → acts ≡ made → answers ≡ others → IsDone kind b reads keys acts answers → IsDone kind b more list made others
+done_as kind b reads more keys list acts made answers others p q r s h =
+    subst (λ (x : List Kept). IsDone kind b x list made others) p
+    (subst (λ (x : List ℕ). IsDone kind b reads x made others) q
+    (subst (λ (x : List Act). IsDone kind b reads keys x others) r
     (subst (λ (x : List Bool). IsDone kind b reads keys acts x) s h)))
 
 module _ (r : Run) (run : RunInvariant r) (rest : AllRest r.shape r.keep) where
@@ -71,7 +71,7 @@ module _ (r : Run) (run : RunInvariant r) (rest : AllRest r.shape r.keep) where
     reads = lists_of (λ v. run.reads v ++ kept_of r.shape (r.keep v)) n
 
     abbrev tells : List (List Bool)
-    tells = lists_of r.told n
+    tells = lists_of r.answers n
 
     of_workers : AreOf n made
     of_workers = subst (λ (count : ℕ). AreOf count made) (sym size) (workers r run)
@@ -83,8 +83,8 @@ module _ (r : Run) (run : RunInvariant r) (rest : AllRest r.shape r.keep) where
     are_done : (v : ℕ) → v < n → IsDone r.kind r.shape.bits (piece reads v) (piece pieces v) (own v made) (piece tells v)
     are_done v l =
         let mine : v < r.shape.workers = omega (arith, size) in
-        done_as r.kind r.shape.bits (run.reads v ++ kept_of r.shape (r.keep v)) (piece reads v) (r.done v) (piece pieces v) (own v run.before ++ own_acts_of (r.keep v)) (own v made) (r.told v) (piece tells v)
-        (sym (piece_of (λ u. run.reads u ++ kept_of r.shape (r.keep u)) n v l)) (all_done v mine) (sym (own_is v mine)) (sym (piece_of r.told n v l)) (run.doing v mine).so_far
+        done_as r.kind r.shape.bits (run.reads v ++ kept_of r.shape (r.keep v)) (piece reads v) (r.done v) (piece pieces v) (own v run.before ++ own_acts_of (r.keep v)) (own v made) (r.answers v) (piece tells v)
+        (sym (piece_of (λ u. run.reads u ++ kept_of r.shape (r.keep u)) n v l)) (all_done v mine) (sym (own_is v mine)) (sym (piece_of r.answers n v l)) (run.doing v mine).so_far
 
     pub ends : LeavesRoom r.kind r.shape.bits S (joined pieces) → FinalSpec r S (joined pieces)
     ends room =
@@ -92,8 +92,8 @@ module _ (r : Run) (run : RunInvariant r) (rest : AllRest r.shape r.keep) where
         record {
           layout = subst (λ (cells : List ℕ). Layout cells r.shape.bits (set_after r.kind S (joined pieces))) (sym cells_are) phase.0;
           tally =
-              ap (sum_of_all (λ v. counted r.kind (r.told v))) (sym size)
-              ∙ same_sums (λ v. counted r.kind (r.told v)) (λ v. counted r.kind (piece tells v)) n (λ v l. ap (counted r.kind) (sym (piece_of r.told n v l)))
+              ap (sum_of_all (λ v. counted r.kind (r.answers v))) (sym size)
+              ∙ same_sums (λ v. counted r.kind (r.answers v)) (λ v. counted r.kind (piece tells v)) n (λ v l. ap (counted r.kind) (sym (piece_of r.answers n v l)))
               ∙ phase.1;
         }
 

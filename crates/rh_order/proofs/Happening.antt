@@ -17,7 +17,7 @@ use Rattle.rh_words.specs.View.{OwnDesc, View}
 use Rattle.rh_words.specs.Steps.{entry_of, no_entry}
 use Rattle.rh_rule.specs.Represents.{IsOpenedSo, numbers_of}
 use Rattle.rh_rule.specs.Core.{Core}
-use Rattle.rh_rule.specs.Rest.{Told}
+use Rattle.rh_rule.specs.Rest.{WorldTells}
 use Rattle.rh_rule.proofs.Erasing.{of_erased}
 use Rattle.rh_rule.proofs.Telling.{tells}
 use Rattle.rh_acts.specs.Act.{Act, Meets, WasWord, entry, apply_acts}
@@ -56,27 +56,27 @@ of_number (o ∷ os) n i = ⊎_elim (λ e. (o, inl refl, e)) (λ j. let got = of
 -- ---- the list of acts
 
 module _ (w : World) (z : Shape) (words : List ℕ) (keep : ℕ → View) (core : Core w z words keep) where
-  abbrev told : Told w z keep core.side
-  told = tells w z words keep core
+  abbrev world_tells : WorldTells w z keep core.side
+  world_tells = tells w z words keep core
 
   act_meets : (i : ℕ) → i < w.act_count → Meets (world_act w (w.act i)) (cells_of z (cells_after w i))
   act_meets i l e h =
       let d = w.act i in
-      let row = core.represents.rows.entries d (succeeded_opened (w.control d) (told.order.succeeded i l)) in
+      let row = core.represents.rows.entries d (succeeded_opened (w.control d) (world_tells.order.succeeded i l)) in
       let it = contains_upto (entry_in w d) (w.size d) e h in
       let inside : w.target d it.0 < cell_count z = row.within it.0 it.1 in
       subst (λ (x : Entry). (x.cell < length (cells_of z (cells_after w i))) × (get_or (cells_of z (cells_after w i)) x.cell 0 ≡ x.old)) (sym it.2) (
         omega (arith, cells_length z (cells_after w i)),
-        get_cells z (cells_after w i) (w.target d it.0) inside ∙ ap (λ u. value_of u) (told.order.meets i l it.0 it.1),
+        get_cells z (cells_after w i) (w.target d it.0) inside ∙ ap (λ u. value_of u) (world_tells.order.meets i l it.0 it.1),
       )
 
   opened_by : (m : Made) → Contains (history w) m → (m.worker < z.workers) × ((o : OwnDesc) × In o (keep m.worker).opened × (m.act ≡ act_of o.entries))
   opened_by m h =
       let it = contains_upto (λ i. made_by w (w.act i)) w.act_count m h in
       let d = w.act it.0 in
-      let mine = told.workers it.0 it.1 in
+      let mine = world_tells.workers it.0 it.1 in
       let its = core.represents.kept d.worker mine in
-      let o = of_number (keep d.worker).opened d.number (its.all d.number (succeeded_opened (w.control d) (told.order.succeeded it.0 it.1))) in
+      let o = of_number (keep d.worker).opened d.number (its.all d.number (succeeded_opened (w.control d) (world_tells.order.succeeded it.0 it.1))) in
       let is : record { worker = d.worker; number = o.0.number } ≡ d = ref_path record { worker = d.worker; number = o.0.number } d refl (sym o.2) in
       subst (λ (x : Made). (x.worker < z.workers) × ((o : OwnDesc) × In o (keep x.worker).opened × (x.act ≡ act_of o.entries))) (sym it.2)
       (mine, (o.0, o.1, sym (opened_act w record { worker = d.worker; number = o.0.number } o.0 (its.opened o.0 o.1) ∙ ap (world_act w) is)))
@@ -86,9 +86,9 @@ module _ (w : World) (z : Shape) (words : List ℕ) (keep : ℕ → View) (core 
       let it = from_filtered (λ (k : KeptRead). nat_lt k.cell (cell_count z)) (λ (k : KeptRead). kept k.cell (value_of k.word)) (keep v).side.reads r h in
       let k = it.0 in
       let inside : k.cell < cell_count z = grind (arith, nat_tests, it.2) in
-      let was = of_erased (core.side v).reads k (subst (λ (s : Side). In k s.reads) (told.kept v mine) it.1) in
+      let was = of_erased (core.side v).reads k (subst (λ (s : Side). In k s.reads) (world_tells.kept v mine) it.1) in
       let j = was.0 in
-      let tells_so = told.foretold.reads v j was.1 in
+      let tells_so = world_tells.foretold.reads v j was.1 in
       let before : j.acts ≤ w.act_count = tells_so.0.within in
       subst (λ (x : Kept). WasWord (opening_cells w z) (acts_of (history w)) x.cell x.value) it.3 (
         j.acts,
@@ -117,5 +117,5 @@ module _ (w : World) (z : Shape) (words : List ℕ) (keep : ℕ → View) (core 
     reads = read_true;
   }
 
-pub happened : ActsHappened
-happened w z words keep core = happened_so w z words keep core
+pub order_of_acts : ActsHappened
+order_of_acts w z words keep core = happened_so w z words keep core

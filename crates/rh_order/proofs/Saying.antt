@@ -22,7 +22,7 @@ use Rattle.rh_words.specs.Words.{cell_in, control_word_of, read_control, serial_
 use Rattle.rh_rule.specs.Represents.{DescRow, HasItsRow, IsCell, Represents, word_at}
 use Rattle.rh_rule.specs.Core.{Core}
 use Rattle.rh_rule.specs.Rest.{is_noted_success}
-use Rattle.rh_rule.proofs.Deciders.{told_succeeded}
+use Rattle.rh_rule.proofs.Deciders.{read_as_succeeded}
 use Rattle.rh_rule.proofs.ReadsKept.{control_stale, newest_word, reads_desc_control, row_stale, true_note, work_known}
 use Rattle.rh_rule.proofs.Said.{cell_said_is, control_said_is, serial_said_is}
 use Rattle.rh_rule.proofs.Telling.{in_noted, noted_in, same_bool, tells}
@@ -81,7 +81,7 @@ module _ (w : World) (z : Shape) (words : List ℕ) (keep : ℕ → View) (core 
   said_succeeded : (d : Ref) → IsOpened (w.control d) → has_succeeded z words d ≡ true → w.control d ≡ succeeded
   said_succeeded d opened is =
       let word : word_at z words (part.Control d.worker) ≡ control_word_of d.number succeeded = eqb-true (word_at z words (part.Control d.worker)) (control_word_of d.number succeeded) is in
-      told_succeeded (w.control d) (
+      read_as_succeeded (w.control d) (
       sym (reads_desc_control z words keep w side rule m d.worker (worker_of d opened) d (worker_of d opened) (ap serial_in word ∙ serial_said_is d.number succeeded tt))
       ∙ ap read_control word
       ∙ control_said_is d.number succeeded tt)
@@ -133,12 +133,12 @@ module _ (w : World) (z : Shape) (words : List ℕ) (keep : ℕ → View) (core 
         (in_noted facts own (subst (λ (r : Control). In (decided own r) facts) (sym (own_result noted.0 of_own) ∙ ap without_entry success) of_own)))
         ((m.kept v mine).over o i)
 
-    pub own_told : is_success (w.control own) ≡ (has_succeeded z words own || is_noted_success facts own)
-    own_told = same_bool (is_success (w.control own)) (has_succeeded z words own || is_noted_success facts own)
+    pub own_success : is_success (w.control own) ≡ (has_succeeded z words own || is_noted_success facts own)
+    own_success = same_bool (is_success (w.control own)) (has_succeeded z words own || is_noted_success facts own)
         (λ e. tells_success (success_yes (w.control own) e))
         (λ e. ⊎_elim
         (λ said. ap is_success (said_succeeded own own_opened said))
-        (λ noted. ap is_success (told_succeeded (w.control own) (own_result succeeded (noted_in facts own noted))))
+        (λ noted. ap is_success (read_as_succeeded (w.control own) (own_result succeeded (noted_in facts own noted))))
         (or_cases (has_succeeded z words own) (is_noted_success facts own) e))
 
   -- ---- a mark

@@ -19,7 +19,7 @@ use Rattle.rh_world.specs.Sides.{Side}
 use Rattle.rh_words.specs.declared.shape.Shape.{Shape}
 use Rattle.rh_words.specs.View.{View}
 use Rattle.rh_rule.specs.Core.{Core}
-use Rattle.rh_rule.specs.Rest.{Told}
+use Rattle.rh_rule.specs.Rest.{WorldTells}
 use Rattle.rh_rule.proofs.Telling.{tells}
 use Rattle.rh_acts.specs.Shared.{IsSharedOut, pieces_at}
 use Rattle.rh_acts.specs.Workers.{LeavesRoom, joined, piece}
@@ -88,11 +88,11 @@ module _ (w : World) (z : Shape) (words : List ℕ) (keep : ℕ → View) (core 
   abbrev claims : List (List ℕ)
   claims = all_claimed z keep
 
-  told : Told w z keep core.side
-  told = tells w z words keep core
+  world_tells : WorldTells w z keep core.side
+  world_tells = tells w z words keep core
 
   of_world : (v : ℕ) → v < z.workers → (keep v).side.claims ≡ (core.side v).claims
-  of_world v mine = ap (λ (s : Side). s.claims) (told.kept v mine)
+  of_world v mine = ap (λ (s : Side). s.claims) (world_tells.kept v mine)
 
   pub claims_size : length claims ≡ z.workers
   claims_size = length-map-range_with_len (λ v. claimed z (keep v)) 0 z.workers
@@ -114,7 +114,7 @@ module _ (w : World) (z : Shape) (words : List ℕ) (keep : ℕ → View) (core 
   shared_so_far : IsSharedOut (min w.counter z.keys) claims
   shared_so_far =
       let m = core.represents in
-      let shared = told.shared in
+      let shared = world_tells.shared in
       record {
         all = λ i inside.
             let one = (shared.found i (omega (arith, inside, m.keys))).1 (omega (arith, inside)) in
@@ -135,7 +135,7 @@ module _ (w : World) (z : Shape) (words : List ℕ) (keep : ℕ → View) (core 
   pub shared_out : ((v : ℕ) → v < z.workers → FoundEnd z (keep v)) → IsSharedOut z.keys claims
   shared_out ended =
       let past = ended 0 z.some_worker in
-      let counter : past.0 < w.counter = told.shared.below 0 past.0 (subst (In past.0) (of_world 0 z.some_worker) past.1) in
+      let counter : past.0 < w.counter = world_tells.shared.below 0 past.0 (subst (In past.0) (of_world 0 z.some_worker) past.1) in
       let beyond : z.keys ≤ past.0 = past.2 in
       let all : min w.counter z.keys ≡ z.keys = omega (arith, counter, beyond) in
       subst (λ (n : ℕ). IsSharedOut n claims) all shared_so_far

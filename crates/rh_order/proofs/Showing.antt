@@ -18,7 +18,7 @@ use Rattle.rh_words.specs.declared.shape.Shape.{Shape}
 use Rattle.rh_words.specs.View.{OwnDesc, View, own_ref}
 use Rattle.rh_rule.specs.Core.{Core}
 use Rattle.rh_rule.specs.Rest.{is_noted_success}
-use Rattle.rh_rule.proofs.Deciders.{told_succeeded}
+use Rattle.rh_rule.proofs.Deciders.{read_as_succeeded}
 use Rattle.rh_rule.proofs.Telling.{noted_in, tells}
 use Rattle.rh_acts.specs.Act.{Act, AllMeet, apply_acts}
 use Rattle.rh_acts.specs.Done.{IsByAct, IsByRead, Kept, KeyDone, WereTrue, kept}
@@ -96,13 +96,13 @@ module _ (w : World) (z : Shape) (words : List ℕ) (keep : ℕ → View) (core 
   -- a descriptor that is noted as succeeded is an act
   act_is_made : (o : OwnDesc) → In o (keep v).opened → is_noted_success (keep v).side.facts (own_ref (keep v) o.number) ≡ true → Contains (acts_of (history w)) (act_of o.entries)
   act_is_made o i is =
-      let told = tells w z words keep core in
+      let world_tells = tells w z words keep core in
       let d : Ref = record { worker = v; number = o.number } in
-      let noted : w.control (own_ref (keep v) o.number) ≡ succeeded = told_succeeded (w.control (own_ref (keep v) o.number)) (told.results v (own_ref (keep v) o.number) succeeded mine (noted_in (keep v).side.facts (own_ref (keep v) o.number) is)) in
+      let noted : w.control (own_ref (keep v) o.number) ≡ succeeded = read_as_succeeded (w.control (own_ref (keep v) o.number)) (world_tells.results v (own_ref (keep v) o.number) succeeded mine (noted_in (keep v).side.facts (own_ref (keep v) o.number) is)) in
       let control : w.control d ≡ succeeded = subst (λ (u : ℕ). w.control record { worker = u; number = o.number } ≡ succeeded) (core.represents.kept v mine).worker noted in
-      let at = told.order.made d control in
+      let at = world_tells.order.made d control in
       let act_is : get_or (acts_of (history w)) at.0 [] ≡ act_of o.entries =
-      act_at w w.act_count at.0 at.1 ∙ ap (world_act w) at.2 ∙ sym (opened_act w d o (told.opened v o mine i)) in
+      act_at w w.act_count at.0 at.1 ∙ ap (world_act w) at.2 ∙ sym (opened_act w d o (world_tells.opened v o mine i)) in
       subst (Contains (acts_of (history w))) act_is (Contains-get_or (acts_of (history w)) at.0 [] (omega (arith, at.1, acts_length w w.act_count)))
 
   pub finished_among : (a : Act) → Contains (own_acts_of (keep v)) a → Contains (acts_of (history w)) a

@@ -23,11 +23,11 @@ use Rattle.rh_acts.proofs.DoneLemmas.{done_key}
 use Rattle.rh_acts.proofs.FoldLemmas.{all_kept, all_there, len_part, there_cases}
 use Rattle.rh_acts.proofs.InOrder.{acts_are_a_phase}
 use Rattle.rh_acts.proofs.OwnLemmas.{own_among}
-use Rattle.rh_acts.proofs.Told.{does_told}
+use Rattle.rh_acts.proofs.Changing.{answer_is_change}
 use Rattle.rh_order.specs.History.{act_of, history, kept_of, logical_cells, own_acts_of, value_of}
 use Rattle.rh_order.specs.Histories.{HistorySpec, OwnActsSpec}
 use Rattle.rh_order.specs.Rounds.{RoundsSpec}
-use Rattle.rh_order.proofs.Happening.{happened}
+use Rattle.rh_order.proofs.Happening.{order_of_acts}
 use Rattle.rh_order.proofs.Joining.{rounds_join}
 use Rattle.rh_order.proofs.Succeeding.{own_so_far}
 use Rattle.rh_order.proofs.Values.{cells_length, get_cells}
@@ -35,7 +35,7 @@ use Rattle.rh_order.specs.Laws.{ActsSoFar, MomentSpec, RunMoment, WorkerSpec}
 use Rattle.rh_order.specs.Run.{DoesOneOf, Run, RunInvariant}
 use Rattle.rh_order.specs.Known.{KnowsHeld}
 use Rattle.rh_order.specs.Words.{AreNow, has_succeeded, succeeded_now}
-use Rattle.rh_order.proofs.Saying.{own_told, words_say, words_tell}
+use Rattle.rh_order.proofs.Saying.{own_success, words_say, words_tell}
 use Rattle.rh_order.proofs.Showing.{finished_among, key_shows}
 
 -- the values for which the cells stand are one list
@@ -62,7 +62,7 @@ keys_done kind b keys (m ∷ made) each =
     let rest = keys_done kind b keys made (λ x h. each x (contains_tail m x made h)) in
     record {
       so_far = k ∷ rest.so_far;
-      done = (m.act ∷ [], acts_of made, changes m.act, map changes (acts_of made), refl, refl, inl record { act = m.act; only = refl; does = subst (λ (t : Bool). Does kind b k t m.act) (sym (does_told kind b k one.2.0 m.act one.2.1)) one.2.1 }, rest.done);
+      done = (m.act ∷ [], acts_of made, changes m.act, map changes (acts_of made), refl, refl, inl record { act = m.act; only = refl; does = subst (λ (t : Bool). Does kind b k t m.act) (sym (answer_is_change kind b k one.2.0 m.act one.2.1)) one.2.1 }, rest.done);
       among = λ q h. ⊎_elim
           (λ (e : k ≡ q). (m, contains_head m made, subst (Contains (keys m.worker)) e one.1))
           (λ later. let it = rest.among q later in (it.0, contains_tail m it.0 made it.1, it.2))
@@ -94,7 +94,7 @@ module _ (r : Run) (run : RunInvariant r) where
   all_made = run.before ++ now
 
   pub so : HistorySpec run.world r.shape r.keep
-  so = happened run.world r.shape r.words r.keep run.core
+  so = order_of_acts run.world r.shape r.words r.keep run.core
 
   pub both : RoundsSpec r.opening run.before now
   both = rounds_join r.opening run.before now
@@ -137,7 +137,7 @@ module _ (r : Run) (run : RunInvariant r) where
       ∙ ap (λ (os : List OwnDesc). reverse (map (λ (o : OwnDesc). act_of o.entries) os))
       (same_filtered (λ (o : OwnDesc). is_success (run.world.control (own_ref k o.number)))
       (λ (o : OwnDesc). has_succeeded r.shape r.words (own_ref k o.number) || is_noted_success k.side.facts (own_ref k o.number)) k.opened
-      (λ o i. own_told run.world r.shape r.words r.keep run.core v mine o i))
+      (λ o i. own_success run.world r.shape r.words r.keep run.core v mine o i))
 
   knows : (v : ℕ) → v < r.shape.workers → KnowsHeld (r.keep v).side v
   knows v mine = subst (KnowsHeld (r.keep v).side) (run.core.represents.kept v mine).worker (run.doing v mine).knows
@@ -197,7 +197,7 @@ module _ (r : Run) (run : RunInvariant r) where
           layout = λ cells now_so. subst (λ (values : List ℕ). Layout values r.shape.bits (set_after r.kind S ks.so_far)) (one_now r.shape r.words r.keep (apply_acts (acts_of all_made) r.opening) cells acts.cells now_so) phase.0;
           reflects = λ v k mine h.
               let reads = run.reads v ++ kept_of r.shape (r.keep v) in
-              let one = done_key r.kind r.shape.bits reads (r.done v) (own v run.before ++ own_acts_of (r.keep v)) (r.told v) (run.doing v mine).so_far k h in
+              let one = done_key r.kind r.shape.bits reads (r.done v) (own v run.before ++ own_acts_of (r.keep v)) (r.answers v) (run.doing v mine).so_far k h in
               key_shows r.kind r.shape.bits r.opening S (set_after r.kind S ks.so_far) all (acts_of all_made) one.0 reads k one.1 layout meet room does_asked phase.0 (was v mine) one.2
               (λ a i. own_among_all v mine a (one.3 a i));
         }

@@ -16,17 +16,17 @@ use Rattle.rh_rule.proofs.Soundness.{views_are_sound}
 use Rattle.rh_rule.proofs.SeatsKept.{noted_opening}
 use Rattle.rh_rule.proofs.StepLaw.{each_step_keeps}
 use Rattle.rh_acts.specs.Act.{Act}
-use Rattle.rh_acts.specs.Done.{Does, IsDone, IsTold, Kept, KeyDone}
+use Rattle.rh_acts.specs.Done.{Does, IsDone, IsAsRead, Kept, KeyDone}
 use Rattle.rh_acts.proofs.DoneLemmas.{key_more, more_read, one_more}
 use Rattle.rh_order.specs.History.{act_of, kept_of, opening_cells, own_acts_of, value_of}
 use Rattle.rh_order.specs.OwnActs.{Orderly, StepFinishes}
 use Rattle.rh_order.proofs.Finishing.{steps_finish}
-use Rattle.rh_order.proofs.Happening.{happened}
+use Rattle.rh_order.proofs.Happening.{order_of_acts}
 use Rattle.rh_order.proofs.Joining.{rounds_follow}
 use Rattle.rh_order.proofs.Learning.{reads_stay}
 use Rattle.rh_order.specs.Advance.{Advances, Fails, GoesOn, Opens, Succeeds}
 use Rattle.rh_order.specs.Laws.{RunClaims, RunGathers, RunSteps, WorkerClaims, WorkerSteps, furthered, stepped}
-use Rattle.rh_order.specs.Run.{DoesOneOf, Progress, ProgressInvariant, Run, RunInvariant, also_done, also_told, progress}
+use Rattle.rh_order.specs.Run.{DoesOneOf, Progress, ProgressInvariant, Run, RunInvariant, also_done, also_answered, progress}
 use Rattle.rh_order.specs.Known.{KnowsHeld}
 use Rattle.rh_order.proofs.Growing.{more_behind}
 use Rattle.rh_order.proofs.Knowing.{knows_next}
@@ -39,19 +39,19 @@ module _ (kind : Kind) (z : Shape) (p : Progress) (next : View) (is : ProgressIn
   read = p.reads ++ kept_of z next
 
   -- by what it read now it has done what it had done
-  read_more : IsDone kind z.bits read p.done (p.acts ++ own_acts_of p.view) p.told
-  read_more = more_read kind z.bits (p.reads ++ kept_of z p.view) read p.done (p.acts ++ own_acts_of p.view) p.told (more_behind p.reads (kept_of z p.view) (kept_of z next) stay) is.so_far
+  read_more : IsDone kind z.bits read p.done (p.acts ++ own_acts_of p.view) p.answers
+  read_more = more_read kind z.bits (p.reads ++ kept_of z p.view) read p.done (p.acts ++ own_acts_of p.view) p.answers (more_behind p.reads (kept_of z p.view) (kept_of z next) stay) is.so_far
 
-  acts_stay : own_acts_of next ≡ own_acts_of p.view → IsDone kind z.bits read p.done (p.acts ++ own_acts_of next) p.told
+  acts_stay : own_acts_of next ≡ own_acts_of p.view → IsDone kind z.bits read p.done (p.acts ++ own_acts_of next) p.answers
   acts_stay same = rw same read_more
 
   -- one key more, by these own acts
-  one_done : (k : ℕ) (so : Bool) (before first : List Act) → IsDone kind z.bits read p.done before p.told
+  one_done : (k : ℕ) (so : Bool) (before first : List Act) → IsDone kind z.bits read p.done before p.answers
       → KeyDone kind z.bits read k first so → before ++ first ≡ p.acts ++ own_acts_of next
-      → IsDone kind z.bits read (p.done ++ k ∷ []) (p.acts ++ own_acts_of next) (p.told ++ so ∷ [])
+      → IsDone kind z.bits read (p.done ++ k ∷ []) (p.acts ++ own_acts_of next) (p.answers ++ so ∷ [])
   one_done k so before first so_far now same =
-      subst (λ (acts : List Act). IsDone kind z.bits read (p.done ++ k ∷ []) acts (p.told ++ so ∷ [])) same
-      (one_more kind z.bits read p.done k before first p.told so so_far now)
+      subst (λ (acts : List Act). IsDone kind z.bits read (p.done ++ k ∷ []) acts (p.answers ++ so ∷ [])) same
+      (one_more kind z.bits read p.done k before first p.answers so so_far now)
 
   -- each descriptor that it opened by now does one of its keys
   abbrev pub OpenedFor : Type 0
@@ -70,8 +70,8 @@ module _ (kind : Kind) (z : Shape) (p : Progress) (next : View) (is : ProgressIn
   none_done same opened = record { orderly = orderly; so_far = acts_stay same; opened = opened; knows = knows }
 
   -- key k is done, as what was read tells
-  pub told_done : (k : ℕ) (so : Bool) → own_acts_of next ≡ own_acts_of p.view → IsTold kind z.bits (kept_of z next) k so → OpenedFor → ProgressInvariant z kind (furthered p next k (Some so))
-  told_done k so same tells opened = record {
+  pub done_by_reads : (k : ℕ) (so : Bool) → own_acts_of next ≡ own_acts_of p.view → IsAsRead kind z.bits (kept_of z next) k so → OpenedFor → ProgressInvariant z kind (furthered p next k (Some so))
+  done_by_reads k so same tells opened = record {
     orderly = orderly;
     so_far = one_done k so (p.acts ++ own_acts_of next) [] (acts_stay same)
         (key_more kind z.bits (kept_of z next) read k [] so (Contains-append_right p.reads (kept_of z next)) (inr record { none = refl; tells = tells }))
@@ -109,7 +109,7 @@ module _ (kind : Kind) (z : Shape) (p : Progress) (next : View) (is : ProgressIn
 
       is_done : (so : Bool) → Advances z kind k p.view next (Some so) → ProgressInvariant z kind (furthered p next k (Some so))
       is_done so a = ⊎_elim
-          (λ (on : GoesOn p.view next × IsTold kind z.bits (kept_of z next) k so). told_done k so (still on.0) on.1 (opened_same on.0.opened))
+          (λ (on : GoesOn p.view next × IsAsRead kind z.bits (kept_of z next) k so). done_by_reads k so (still on.0) on.1 (opened_same on.0.opened))
           (λ (old : Succeeds z kind k p.view next so). act_done k so (act_of old.own.entries) (finishes.succeeds old.own old.closes old.before) old.does (opened_same old.opened)) a
 
       pub advances : (answer : Option Bool) → Advances z kind k p.view next answer → ProgressInvariant z kind (furthered p next k answer)
@@ -145,15 +145,15 @@ worker_claims kind z p word next allowed steps sound is =
 -- ---- the run
 
 pub run_gathers : RunGathers
-run_gathers r run then next done told w who core lt same doing =
-    let so = happened run.world r.shape r.words r.keep run.core in
+run_gathers r run then next done answers w who core lt same doing =
+    let so = order_of_acts run.world r.shape r.words r.keep run.core in
     record {
       world = w;
       core = core;
       before = run.before;
       reads = run.reads;
       meet = run.meet;
-      cells = rounds_follow w r.shape next who (opening_cells run.world r.shape) (happened w r.shape then next core) lt so.size
+      cells = rounds_follow w r.shape next who (opening_cells run.world r.shape) (order_of_acts w r.shape then next core) lt so.size
           (λ c inside. ap (λ (cells : List ℕ). value_of (slice_index cells c)) same ∙ sym (so.opening who c lt inside))
           ∙ run.cells;
       workers = run.workers;
@@ -187,30 +187,30 @@ module _ (r : Run) (who : ℕ) (s : Step) (word : ℕ) (then : List ℕ) (next :
   sound_then = subst (Sound r.shape) next_is (views_are_sound later r.shape then kept_then who core_then lt)
 
   -- the worker goes on so, and each other one stays as it was
-  module _ (d : List ℕ) (t : List Bool) (doing : ProgressInvariant r.shape r.kind (record (progress r run.before run.reads who) { view = next; done = d; told = t })) where
+  module _ (d : List ℕ) (t : List Bool) (doing : ProgressInvariant r.shape r.kind (record (progress r run.before run.reads who) { view = next; done = d; answers = t })) where
     abbrev run_then : Run
-    run_then = record (stepped r then who next) { done = updated r.done who d; told = updated r.told who t }
+    run_then = record (stepped r then who next) { done = updated r.done who d; answers = updated r.answers who t }
 
     each_is : (v : ℕ) → v < r.shape.workers → (here : Bool) → eqb v who ≡ here
-        → ProgressInvariant r.shape r.kind (record (progress r run.before run.reads v) { view = cond here next (r.keep v); done = cond here d (r.done v); told = cond here t (r.told v) })
-    each_is v l true is = subst (λ u. ProgressInvariant r.shape r.kind (record (progress r run.before run.reads u) { view = next; done = d; told = t })) (sym (eqb-true v who is)) doing
+        → ProgressInvariant r.shape r.kind (record (progress r run.before run.reads v) { view = cond here next (r.keep v); done = cond here d (r.done v); answers = cond here t (r.answers v) })
+    each_is v l true is = subst (λ u. ProgressInvariant r.shape r.kind (record (progress r run.before run.reads u) { view = next; done = d; answers = t })) (sym (eqb-true v who is)) doing
     each_is v l false is = run.doing v l
 
     goes_on_then : RunInvariant run_then
-    goes_on_then = run_gathers r run then kept_then (updated r.done who d) (updated r.told who t) later who core_then lt
+    goes_on_then = run_gathers r run then kept_then (updated r.done who d) (updated r.answers who t) later who core_then lt
         (ap (λ (v : View). v.opening) (next_is ∙ steps.view_is) ∙ noted_opening r.shape (r.keep who) s word) (λ v l. each_is v l (eqb v who) refl)
 
 pub run_steps : RunSteps
 run_steps r who s word then next k answer lt allowed steps mine a run =
-    goes_on_then r who s word then next lt allowed steps run (also_done (r.done who) k answer) (also_told (r.told who) answer)
+    goes_on_then r who s word then next lt allowed steps run (also_done (r.done who) k answer) (also_answered (r.answers who) answer)
     (worker_steps r.kind r.shape (progress r run.before run.reads who) s word next k answer allowed steps.view_is
     (sound_then r who s word then next lt allowed steps run) mine a (run.doing who lt))
 
 pub run_claims : RunClaims
 run_claims r who word then next lt allowed steps run =
-    let same : RunInvariant (record (stepped r then who next) { done = updated r.done who (r.done who); told = updated r.told who (r.told who) }) =
-    goes_on_then r who Step.claims word then next lt allowed steps run (r.done who) (r.told who)
+    let same : RunInvariant (record (stepped r then who next) { done = updated r.done who (r.done who); answers = updated r.answers who (r.answers who) }) =
+    goes_on_then r who Step.claims word then next lt allowed steps run (r.done who) (r.answers who)
     (worker_claims r.kind r.shape (progress r run.before run.reads who) word next allowed steps.view_is
     (sound_then r who Step.claims word then next lt allowed steps run) (run.doing who lt)) in
-    subst (λ (t : ℕ → List Bool). RunInvariant (record (stepped r then who next) { told = t })) (same_updated r.told who)
-    (subst (λ (d : ℕ → List ℕ). RunInvariant (record (stepped r then who next) { done = d; told = updated r.told who (r.told who) })) (same_updated r.done who) same)
+    subst (λ (t : ℕ → List Bool). RunInvariant (record (stepped r then who next) { answers = t })) (same_updated r.answers who)
+    (subst (λ (d : ℕ → List ℕ). RunInvariant (record (stepped r then who next) { done = d; answers = updated r.answers who (r.answers who) })) (same_updated r.done who) same)

@@ -14,8 +14,8 @@ use Rattle.rh_words.specs.View.{OwnDesc, View, own_ref}
 use Rattle.rh_words.specs.Words.{without_entry}
 use Rattle.rh_rule.specs.Core.{Core}
 use Rattle.rh_rule.specs.Represents.{numbers_of}
-use Rattle.rh_rule.specs.Rest.{Told, is_noted_success}
-use Rattle.rh_rule.proofs.Deciders.{told_success}
+use Rattle.rh_rule.specs.Rest.{WorldTells, is_noted_success}
+use Rattle.rh_rule.proofs.Deciders.{read_as_success}
 use Rattle.rh_rule.proofs.Telling.{in_noted, noted_in, same_bool, same_filtered, tells}
 use Rattle.rh_acts.specs.Act.{Act}
 use Rattle.rh_acts.specs.Workers.{own}
@@ -70,8 +70,8 @@ module _ (w : World) (z : Shape) (words : List ℕ) (keep : ℕ → View) (v : �
   abbrev k : View
   k = keep v
 
-  told : Told w z keep core.side
-  told = tells w z words keep core
+  world_tells : WorldTells w z keep core.side
+  world_tells = tells w z words keep core
 
   tidy : Orderly k
   tidy = kept_is_orderly w z words keep v core mine
@@ -85,8 +85,8 @@ module _ (w : World) (z : Shape) (words : List ℕ) (keep : ℕ → View) (v : �
   by_success : own v (history w) ≡ succeeded_acts w k
   by_success =
       own_upto w v w.act_count
-      ∙ ap (λ (numbers : List ℕ). reverse (map (λ n. world_act w (ref_at v n)) numbers)) (told.own v mine)
-      ∙ ap reverse (by_number (λ n. world_act w (ref_at v n)) (λ n. is_success (w.control (ref_at v n))) k.opened (λ o i. sym (opened_act w (ref_at v o.number) o (told.opened v o mine i))))
+      ∙ ap (λ (numbers : List ℕ). reverse (map (λ n. world_act w (ref_at v n)) numbers)) (world_tells.own v mine)
+      ∙ ap reverse (by_number (λ n. world_act w (ref_at v n)) (λ n. is_success (w.control (ref_at v n))) k.opened (λ o i. sym (opened_act w (ref_at v o.number) o (world_tells.opened v o mine i))))
       ∙ ap (λ (u : ℕ). acts_by (filter (λ (o : OwnDesc). is_success (w.control (ref_at u o.number))) k.opened)) (sym number_is)
 
   -- what it noted as decided succeeded where it noted so
@@ -94,8 +94,8 @@ module _ (w : World) (z : Shape) (words : List ℕ) (keep : ℕ → View) (v : �
   noted_right o r i =
       let d : Ref = own_ref k o.number in
       same_bool (succeeds o) (is_noted_success k.side.facts d)
-      (λ e. in_noted k.side.facts d (subst (λ (c : Control). In (decided d c) k.side.facts) (sym (told.results v d r mine i) ∙ ap without_entry (success_yes (w.control d) e)) i))
-      (λ e. sym (told_success (w.control d)) ∙ ap is_success (told.results v d succeeded mine (noted_in k.side.facts d e)))
+      (λ e. in_noted k.side.facts d (subst (λ (c : Control). In (decided d c) k.side.facts) (sym (world_tells.results v d r mine i) ∙ ap without_entry (success_yes (w.control d) e)) i))
+      (λ e. sym (read_as_success (w.control d)) ∙ ap is_success (world_tells.results v d succeeded mine (noted_in k.side.facts d e)))
 
   -- one that is not open is finished where it succeeded
   closed_right : (o : OwnDesc) → In o k.opened → (k.side.current ≡ Some o.number → ⊥) → is_finished k o ≡ succeeds o

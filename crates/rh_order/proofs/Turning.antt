@@ -23,7 +23,7 @@ use Rattle.rh_acts.specs.Workers.{Made, acts_of}
 use Rattle.rh_acts.proofs.ActLemmas.{contains_none}
 use Rattle.rh_acts.proofs.OwnLemmas.{none_of_own}
 use Rattle.rh_order.specs.History.{history, kept_of, logical_cells, opening_cells, own_acts_of, value_of}
-use Rattle.rh_order.proofs.Happening.{happened}
+use Rattle.rh_order.proofs.Happening.{order_of_acts}
 use Rattle.rh_order.proofs.Joining.{rounds_begin, rounds_follow}
 use Rattle.rh_order.proofs.Resting.{at_rest}
 use Rattle.rh_order.proofs.Values.{get_cells}
@@ -57,7 +57,7 @@ module _ (w : World) (z : Shape) (words cells plain_words : List ℕ) (core : Co
 
   start_opens : length cells ≡ cell_count z → ((c : ℕ) → c < cell_count z → value_of (slice_index words c) ≡ slice_index cells c) → opening_cells w z ≡ cells
   start_opens long same =
-      let so = happened w z words (new_view plain_words) core in
+      let so = order_of_acts w z words (new_view plain_words) core in
       let all = at_rest w z words (new_view plain_words) core all_new in
       let none : history w ≡ [] = none_of_own z.workers (history w) so.workers all.acts in
       let stand : ℕ → ℕ = cells_after w w.act_count in
@@ -93,8 +93,8 @@ worker_turns kind z cells p is =
     let known = p.reads ++ kept_of z p.view in
     record {
       orderly = ((rounds_begin z cells).1 p.view).orderly;
-      so_far = subst (λ (reads : List Kept). IsDone kind z.bits reads p.done (made ++ []) p.told) (sym (append-nil known))
-          (subst (λ (acts : List Act). IsDone kind z.bits known p.done acts p.told) (sym (append-nil made)) is.so_far);
+      so_far = subst (λ (reads : List Kept). IsDone kind z.bits reads p.done (made ++ []) p.answers) (sym (append-nil known))
+          (subst (λ (acts : List Act). IsDone kind z.bits known p.done acts p.answers) (sym (append-nil made)) is.so_far);
       opened = λ o i. absurd i;
       knows = nothing_held (record new_side { claims = p.view.side.claims }) p.view.worker refl refl;
     }
@@ -131,7 +131,7 @@ module _ (r : Run) (then cells : List ℕ) (rest : AllRest r.shape r.keep) (same
   goes_on_from : opening_cells ruled.0 r.shape ≡ logical_cells run.world r.shape
   goes_on_from =
       let all = ended r run rest in
-      rounds_follow ruled.0 r.shape next 0 (logical_cells run.world r.shape) (happened ruled.0 r.shape then next ruled.1) r.shape.some_worker all.size
+      rounds_follow ruled.0 r.shape next 0 (logical_cells run.world r.shape) (order_of_acts ruled.0 r.shape then next ruled.1) r.shape.some_worker all.size
       (λ c inside. ap (λ u. value_of u) (sym (same c inside)) ∙ all.cells c inside)
 
   abbrev reads : ℕ → List Kept

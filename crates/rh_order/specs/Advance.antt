@@ -5,7 +5,7 @@ use Rattle.rh_world.specs.World.{Control, In}
 use Rattle.rh_world.specs.World.Control.{succeeded}
 use Rattle.rh_world.specs.Facts.Fact.{decided}
 use Rattle.rh_world.specs.Acts.{is_success}
-use Rattle.rh_acts.specs.Done.{Does, IsTold}
+use Rattle.rh_acts.specs.Done.{Does, IsAsRead}
 use Rattle.rh_words.specs.declared.shape.Shape.{Shape}
 use Rattle.rh_words.specs.View.{OwnDesc, View, own_ref}
 use Rattle.rh_order.specs.History.{act_of, kept_of}
@@ -35,14 +35,14 @@ pub record Fails (v next : View) : Type 0 where
   pub in_vain : is_success control ≡ false
 
 -- it was closed, and had succeeded: so the key is done
-pub record Succeeds (z : Shape) (kind : Kind) (k : ℕ) (v next : View) (told : Bool) : Type 0 where
+pub record Succeeds (z : Shape) (kind : Kind) (k : ℕ) (v next : View) (answer : Bool) : Type 0 where
   pub own : OwnDesc
   pub closes : Closes v next own
   pub opened : next.opened ≡ v.opened
   pub before : In (decided (own_ref v own.number) succeeded) v.side.facts
-  pub does : Does kind z.bits k told (act_of own.entries)
+  pub does : Does kind z.bits k answer (act_of own.entries)
 
 -- The key is done with this answer, or not done.
 abbrev pub Advances : Shape → Kind → (k : ℕ) → (v next : View) → (done : Option Bool) → Type 0
 Advances z kind k v next None = GoesOn v next ⊎ (Opens z kind k v next ⊎ Fails v next)
-Advances z kind k v next (Some told) = (GoesOn v next × IsTold kind z.bits (kept_of z next) k told) ⊎ Succeeds z kind k v next told
+Advances z kind k v next (Some answer) = (GoesOn v next × IsAsRead kind z.bits (kept_of z next) k answer) ⊎ Succeeds z kind k v next answer

@@ -25,7 +25,7 @@ use Rattle.rh_acts.specs.Workers.{AreOf, LeavesRoom, Made, acts_of, counted, joi
 use Rattle.rh_order.specs.History.{history, kept_of, own_acts_of, value_of}
 use Rattle.rh_order.specs.Advance.{Advances}
 use Rattle.rh_order.specs.Known.{KnowsHeld}
-use Rattle.rh_order.specs.Run.{Progress, ProgressInvariant, Run, RunInvariant, also_done, also_told, progress}
+use Rattle.rh_order.specs.Run.{Progress, ProgressInvariant, Run, RunInvariant, also_done, also_answered, progress}
 use Rattle.rh_order.specs.Words.{AreNow, IsLogicalWord, IsWiped, LeadsInside, cells_held, succeeded_now}
 use Rattle.rh_order.specs.Claimed.{FoundEnd, claimed}
 
@@ -33,11 +33,11 @@ use Rattle.rh_order.specs.Claimed.{FoundEnd, claimed}
 
 -- it has done nothing yet
 abbrev pub not_begun : View → (keys : List ℕ) → Progress
-not_begun v keys = record { view = v; keys = keys; acts = []; reads = []; done = []; told = [] }
+not_begun v keys = record { view = v; keys = keys; acts = []; reads = []; done = []; answers = [] }
 
 -- one key more, where there is an answer
 abbrev pub furthered : Progress → (next : View) → (k : ℕ) → (answer : Option Bool) → Progress
-furthered p next k answer = record p { view = next; done = also_done p.done k answer; told = also_told p.told answer }
+furthered p next k answer = record p { view = next; done = also_done p.done k answer; answers = also_answered p.answers answer }
 
 -- in a further round what it did and read is of an earlier one
 abbrev pub turned_over : Shape → (cells : List ℕ) → Progress → Progress
@@ -75,7 +75,7 @@ started kind z cells keys = record {
   keep = new_view (map plain_number cells);
   keys = keys;
   done = λ v. [];
-  told = λ v. [];
+  answers = λ v. [];
 }
 
 -- a step of one worker, after which these are the words, and this is kept of the worker
@@ -85,7 +85,7 @@ stepped r then who next = record r { words = then; keep = updated r.keep who nex
 -- and one key of it more, where there is an answer
 abbrev pub also_done_by : Run → (who k : ℕ) (answer : Option Bool) → Run
 also_done_by r who k answer =
-    record r { done = updated r.done who (also_done (r.done who) k answer); told = updated r.told who (also_told (r.told who) answer) }
+    record r { done = updated r.done who (also_done (r.done who) k answer); answers = updated r.answers who (also_answered (r.answers who) answer) }
 
 -- It starts from any cells, with nothing done.
 abbrev pub RunStarts : Type 0
@@ -93,11 +93,11 @@ RunStarts = (kind : Kind) (z : Shape) (cells : List ℕ) (keys : ℕ → List �
 
 -- In a round it comes as far as its workers: it is enough that the table is ruled, and opened as one of them kept it.
 abbrev pub RunGathers : Type 0
-RunGathers = (r : Run) (run : RunInvariant r) (then : List ℕ) (next : ℕ → View) (done : ℕ → List ℕ) (told : ℕ → List Bool) (w : World) (who : ℕ)
+RunGathers = (r : Run) (run : RunInvariant r) (then : List ℕ) (next : ℕ → View) (done : ℕ → List ℕ) (answers : ℕ → List Bool) (w : World) (who : ℕ)
     → Core w r.shape then next → who < r.shape.workers → (next who).opening ≡ (r.keep who).opening
     → ((v : ℕ) → v < r.shape.workers
-    → ProgressInvariant r.shape r.kind (progress (record r { words = then; keep = next; done = done; told = told }) run.before run.reads v))
-    → RunInvariant (record r { words = then; keep = next; done = done; told = told })
+    → ProgressInvariant r.shape r.kind (progress (record r { words = then; keep = next; done = done; answers = answers }) run.before run.reads v))
+    → RunInvariant (record r { words = then; keep = next; done = done; answers = answers })
 
 -- A step of a worker that is at one of its keys.
 abbrev pub RunSteps : Type 0
@@ -124,13 +124,13 @@ pub record AreAlike (r s : Run) (v : ℕ) : Type 0 where
   pub kept : r.keep v ≡ s.keep v
   pub keys_are : r.keys v ≡ s.keys v
   pub done_are : r.done v ≡ s.done v
-  pub told_are : r.told v ≡ s.told v
+  pub answers_are : r.answers v ≡ s.answers v
 
 -- The workers of the table alone count.
 abbrev pub RunsAlike : Type 0
-RunsAlike = (r : Run) (keep : ℕ → View) (keys done : ℕ → List ℕ) (told : ℕ → List Bool)
-    → ((v : ℕ) → v < r.shape.workers → AreAlike r (record r { keep = keep; keys = keys; done = done; told = told }) v)
-    → RunInvariant r → RunInvariant (record r { keep = keep; keys = keys; done = done; told = told })
+RunsAlike = (r : Run) (keep : ℕ → View) (keys done : ℕ → List ℕ) (answers : ℕ → List Bool)
+    → ((v : ℕ) → v < r.shape.workers → AreAlike r (record r { keep = keep; keys = keys; done = done; answers = answers }) v)
+    → RunInvariant r → RunInvariant (record r { keep = keep; keys = keys; done = done; answers = answers })
 
 -- ---- at each moment
 
@@ -184,14 +184,14 @@ pub record WorkerSpec (r : Run) (made : List Made) (v : ℕ) : Type 0 where
   pub acts : List Act
   pub left : List Act
   pub reads : List Kept
-  pub each : IsDone r.kind r.shape.bits reads (r.done v) acts (r.told v)
+  pub each : IsDone r.kind r.shape.bits reads (r.done v) acts (r.answers v)
   pub were_true : WereTrue r.opening (acts_of made) reads
   pub are_own : own v made ≡ acts ++ left
   pub one_left : length left ≤ 1
   pub none_left : (r.keep v).side.current ≡ None → left ≡ []
 
 -- By these acts so far each worker has done its keys, and the cells stand for the layout of the set after the keys of the acts,
--- in their order, each of which is done by its act, and told by whether that changes a cell. Each is a key of a worker; and
+-- in their order, each of which is done by its act, with the answer whether that changes a cell. Each is a key of a worker; and
 -- the set reflects each key that is done.
 pub record MomentSpec (r : Run) (S : Keys) (before now : List Made) : Type 0 where
   pub acts : ActsSoFar r before now
@@ -210,14 +210,14 @@ RunMoment = (r : Run) (S : Keys) (all : List ℕ) (run : RunInvariant r) → Lay
 -- Where keys are asked for, each is answered by whether the first set holds it: no act changes a cell.
 abbrev pub RunAnswers : Type 0
 RunAnswers = (r : Run) (S : Keys) → RunInvariant r → Layout r.opening r.shape.bits S → r.kind ≡ Ask
-    → (v : ℕ) → v < r.shape.workers → r.told v ≡ looked_up S (r.done v)
+    → (v : ℕ) → v < r.shape.workers → r.answers v ≡ looked_up S (r.done v)
 
 -- ---- at the end
 
 -- The workers have made what one worker makes of this list: the layout of the same set, and the same tally.
 pub record FinalSpec (r : Run) (S : Keys) (list : List ℕ) : Type 0 where
   pub layout : Layout (cells_held r.shape r.words) r.shape.bits (set_after r.kind S list)
-  pub tally : sum_of_all (λ v. counted r.kind (r.told v)) r.shape.workers ≡ tally_of r.kind S list
+  pub tally : sum_of_all (λ v. counted r.kind (r.answers v)) r.shape.workers ≡ tally_of r.kind S list
 
 -- Where each worker has done its list, and all are at rest.
 abbrev pub RunEnds : Type 0

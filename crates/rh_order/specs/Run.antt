@@ -14,16 +14,16 @@ use Rattle.rh_order.specs.History.{act_of, kept_of, opening_cells, own_acts_of}
 use Rattle.rh_order.specs.OwnActs.{Orderly}
 use Rattle.rh_order.specs.Known.{KnowsHeld}
 
--- ---- the keys that are done, and what was told of each
+-- ---- the keys that are done, and the answer of each
 
 -- one key more, where the key is done
 abbrev pub also_done : List ℕ → (k : ℕ) → (answer : Option Bool) → List ℕ
 also_done done k None = done
-also_done done k (Some told) = done ++ k ∷ []
+also_done done k (Some answer) = done ++ k ∷ []
 
-abbrev pub also_told : List Bool → (answer : Option Bool) → List Bool
-also_told told None = told
-also_told told (Some so) = told ++ so ∷ []
+abbrev pub also_answered : List Bool → (answer : Option Bool) → List Bool
+also_answered answers None = answers
+also_answered answers (Some so) = answers ++ so ∷ []
 
 -- ---- one worker, and all
 
@@ -31,26 +31,26 @@ also_told told (Some so) = told ++ so ∷ []
 abbrev pub DoesOneOf : Kind → (b : ℕ) (keys : List ℕ) → Act → Type 0
 DoesOneOf kind b keys act = (k : ℕ) × Contains keys k × ((changes : Bool) × Does kind b k changes act)
 
--- One worker: what is kept of it and its keys; its acts and reads of earlier rounds; the keys that it has done by now, and what
--- it was told of each.
+-- One worker: what is kept of it and its keys; its acts and reads of earlier rounds; the keys that it has done by now, and the
+-- answer of each.
 pub record Progress : Type 0 where
   pub view : View
   pub keys : List ℕ
   pub acts : List Act
   pub reads : List Kept
   pub done : List ℕ
-  pub told : List Bool
+  pub answers : List Bool
 
 -- It has done these keys one by one, by its acts and reads of all rounds. Each descriptor that it opened does one of its keys,
 -- whether it succeeds or not; and it knows what it holds.
 pub record ProgressInvariant (z : Shape) (kind : Kind) (p : Progress) : Type 0 where
   pub orderly : Orderly p.view
-  pub so_far : IsDone kind z.bits (p.reads ++ kept_of z p.view) p.done (p.acts ++ own_acts_of p.view) p.told
+  pub so_far : IsDone kind z.bits (p.reads ++ kept_of z p.view) p.done (p.acts ++ own_acts_of p.view) p.answers
   pub opened : (o : OwnDesc) → In o p.view.opened → DoesOneOf kind z.bits p.keys (act_of o.entries)
   pub knows : KnowsHeld p.view.side p.view.worker
 
 -- A table and its workers at one moment: the cells from which the run started, and the words of the table now; and of each
--- worker what is kept of it, its keys, those that it has done, and what it was told of each.
+-- worker what is kept of it, its keys, those that it has done, and the answer of each.
 pub record Run : Type 0 where
   pub kind : Kind
   pub shape : Shape
@@ -59,11 +59,11 @@ pub record Run : Type 0 where
   pub keep : ℕ → View
   pub keys : ℕ → List ℕ
   pub done : ℕ → List ℕ
-  pub told : ℕ → List Bool
+  pub answers : ℕ → List Bool
 
 -- how far its worker v has come, of whom this is known of earlier rounds
 abbrev pub progress : Run → (before : List Made) (reads : ℕ → List Kept) (v : ℕ) → Progress
-progress r before reads v = record { view = r.keep v; keys = r.keys v; acts = own v before; reads = reads v; done = r.done v; told = r.told v }
+progress r before reads v = record { view = r.keep v; keys = r.keys v; acts = own v before; reads = reads v; done = r.done v; answers = r.answers v }
 
 -- The table is ruled by a world, which goes on from where the acts of the earlier rounds led.
 pub record RunInvariant (r : Run) : Type 0 where

@@ -9,7 +9,7 @@ ghost use Rattle.rh_order.specs.Rounds.{RoundsBegin, RoundsFollow, RoundsJoin};
 /// At any moment the acts of a table's world are a list of acts that meet their old values, each of
 /// a worker of the table and with the entries of a descriptor that it opened. What was kept as read
 /// was true after some first acts.
-pub fn happened()
+pub fn order_of_acts()
     ensures { ActsHappened }
 {}
 

@@ -3,15 +3,15 @@
 //!
 //! These are laws, in any interleaving of the workers' steps. They join `rh_rule`, the rule of a
 //! table of words, to `rh_acts`, what acts make of a set; `rh_worker`, `rh_threads` and `rh_turns`
-//! stand on them. What a worker did so far is told as one list of acts on the values of its cells,
-//! its history.
+//! stand on them. What the workers of a table did so far is one list of acts on the values of its
+//! cells, its history.
 //!
 //! Proved of histories:
 //!
-//! - `happened`: at any moment the acts of the table's world meet their old values one after the
-//!   other, from the opening cells to what the cells stand for now. Each is of a worker of the
+//! - `order_of_acts`: at any moment the acts of the table's world meet their old values one after
+//!   the other, from the opening cells to what the cells stand for now. Each is of a worker of the
 //!   table, with the entries of a descriptor that it opened.
-//! - `happened`, of reads: what was kept as read of a cell was true after some first acts.
+//! - `order_of_acts`, of reads: what was kept as read of a cell was true after some first acts.
 //! - `at_rest`: where all workers are at rest, a worker's own acts are those that it has finished,
 //!   and the cells hold what all acts leave. `plain_words`: plain words and what cells hold are one
 //!   to one.
@@ -32,9 +32,8 @@
 //! - `only_success_changes`: no step changes what a cell stands for, but a Decide that lets a
 //!   descriptor succeed. So a stale helper changes nothing, whatever it still does for stale
 //!   descriptors.
-//! - `run_stands`, of words: what each cell stands for is told by the words, but of a mark by the
-//!   old value that its worker noted. Of a stale descriptor it is told by the
-//!   worker that holds the cell.
+//! - `run_stands`, of words: what each cell stands for is said by the words, but of a mark by the
+//!   old value that its worker noted, and of a stale descriptor by the worker that holds the cell.
 //! - `run_stands`, of keys: at each moment the cells stand for the layout of the set after the keys
 //!   of the acts so far. Each key that is done shows in it. Each key that was asked for is answered
 //!   by whether the first set holds it.
@@ -49,7 +48,7 @@
 mod histories;
 mod laws;
 
-pub use histories::{at_rest, happened, own_acts, plain_words, reads, rounds};
+pub use histories::{at_rest, order_of_acts, own_acts, plain_words, reads, rounds};
 pub use laws::{
     no_key_is_lost, only_success_changes, run_ends, run_goes_on, run_stands, worker_goes_on,
 };

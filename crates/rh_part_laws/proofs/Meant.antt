@@ -22,7 +22,7 @@ use Rattle.rh_script_run.specs.Files as file_maps
 use Rattle.rh_script_run.specs.Meaning.{CommandOutcome, ScriptState, held_table, keys_at_path, list_of, meaning, outcome_at, outcome_of, start, table_at, with_list}
 use Rattle.rh_script_run.proofs.MadeLemmas.{Made, line_ok}
 use Rattle.rh_script_run.proofs.RunLemmas.{reached_in, then_ok}
-use Rattle.rh_part_laws.specs.Commands.{State, after, after_all, cut, with_held, with_name, with_sealed}
+use Rattle.rh_part_laws.specs.Commands.{PartState, after, after_all, cut, with_held, with_name, with_sealed}
 use Rattle.rh_part_laws.specs.Scripts.{Has, commands_of}
 use Rattle.rh_part_laws.proofs.States.{cut_all}
 
@@ -34,7 +34,7 @@ made_in other (Ok done) = done
 made_in other (Err cause) = other
 
 -- what holds of the state that a command made holds of that of its outcome
-of_done : (s : State) (made done : ScriptState × Account) → as_ok made ≡ Ok done → Has made.0 s → Has done.0 s
+of_done : (s : PartState) (made done : ScriptState × Account) → as_ok made ≡ Ok done → Has made.0 s → Has done.0 s
 of_done s made done is has = subst (λ (d : ScriptState × Account). Has d.0 s) (ap (made_in made) is) has
 
 -- ---- a snapshot that was put
@@ -67,7 +67,7 @@ means_held Ask t keys made is = sym (ap (keys_of_made t.keys) is)
 
 -- ---- a command
 
-module _ (w : ScriptState) (s : State) (has : Has w s) where
+module _ (w : ScriptState) (s : PartState) (has : Has w s) where
   now_named : (name keys list : List ℕ) → keys ≡ list → Has (with_list w name keys) (with_name s name list)
   now_named name keys list is = record {
     held = has.held;
@@ -106,7 +106,7 @@ module _ (w : ScriptState) (s : State) (has : Has w s) where
 
 -- ---- all of them
 
-after_steps : (w : ScriptState) (s : State) (steps : List Numbered) (made : Made) → Has w s → meaning w steps ≡ Ok made → Has made.0 (after_all s (commands_of steps))
+after_steps : (w : ScriptState) (s : PartState) (steps : List Numbered) (made : Made) → Has w s → meaning w steps ≡ Ok made → Has made.0 (after_all s (commands_of steps))
 unfolding meaning
 after_steps w s [] made has means = subst (λ (x : Made). Has x.0 s) (ap (reached_in (w, [])) means) has
 after_steps w s (step ∷ steps) made has means =
@@ -116,11 +116,11 @@ after_steps w s (step ∷ steps) made has means =
     let one = after_one w s has step.instruction first.0 (line_ok step.line _ first.0 first.1) in
     subst (λ (x : Made). Has x.0 (after_all (after s step.instruction) (commands_of steps))) here (after_steps first.0.0 (after s step.instruction) steps rest.0 one rest.1)
 
-pub of_script : (s : State) (w made : ScriptState) (steps : List Numbered) (accounts : List Account) → Has w s → meaning w steps ≡ Ok (made, accounts) → Has made (after_all s (commands_of steps))
+pub of_script : (s : PartState) (w made : ScriptState) (steps : List Numbered) (accounts : List Account) → Has w s → meaning w steps ≡ Ok (made, accounts) → Has made (after_all s (commands_of steps))
 of_script s w made steps accounts has means = after_steps w s steps (made, accounts) has means
 
-pub of_part : (passes : ℕ → Bool) (s : State) (files : Files) (steps : List Numbered) (old new : Environment) (report : Report) → Has (start files) (cut passes s) → Ends files steps old new (Ok report)
+pub of_part : (passes : ℕ → Bool) (s : PartState) (files : Files) (steps : List Numbered) (old new : Environment) (report : Report) → Has (start files) (cut passes s) → Ends files steps old new (Ok report)
     → (made : ScriptState) × Has made (cut passes (after_all s (commands_of steps))) × HasFiles made.files new.files × (report.held ≡ set.len made.held)
 of_part passes s files steps old new report has done =
     let made = of_script (cut passes s) (start files) done.world steps done.accounts has done.means in
-    (done.world, subst (λ (t : State). Has done.world t) (sym (cut_all passes s (commands_of steps))) made, done.files_now, ap (λ (r : Report). r.held) done.told)
+    (done.world, subst (λ (t : PartState). Has done.world t) (sym (cut_all passes s (commands_of steps))) made, done.files_now, ap (λ (r : Report). r.held) done.told)

@@ -12,7 +12,7 @@ use Rattle.rh_script.specs.declared.action.Action.{Action}
 use Rattle.rh_script.specs.declared.action.Action.TheVariants.{Add, Drop, Keep, Flip, Ask}
 use Rattle.rh_operations.specs.Sets.{held_after}
 use Rattle.rh_script_run.specs.Meaning.{list_of}
-use Rattle.rh_part_laws.specs.Commands.{State, after, after_all, cut, cut_list, with_held, with_name}
+use Rattle.rh_part_laws.specs.Commands.{PartState, after, after_all, cut, cut_list, with_held, with_name}
 use Rattle.rh_part_laws.proofs.Cutting.{flipped_only, inserted, kept_only, none_held, removed}
 
 module _ (passes : ℕ → Bool) where
@@ -43,7 +43,7 @@ module _ (passes : ℕ → Bool) where
   of_either true S T = refl
   of_either false S T = refl
 
-  module _ (s : State) where
+  module _ (s : PartState) where
     now_named : (name keys : List ℕ) → cut passes (with_name s name keys) ≡ with_name (cut passes s) name (filter passes keys)
     now_named name keys = λ i. record (cut passes s) { lists = named_more s.lists name keys i }
 
@@ -62,6 +62,6 @@ module _ (passes : ℕ → Bool) where
 
   -- ---- all of them
 
-  pub cut_all : (s : State) (commands : List Instruction) → cut passes (after_all s commands) ≡ after_all (cut passes s) commands
+  pub cut_all : (s : PartState) (commands : List Instruction) → cut passes (after_all s commands) ≡ after_all (cut passes s) commands
   cut_all s [] = refl
-  cut_all s (command ∷ commands) = cut_all (after s command) commands ∙ ap (λ (t : State). after_all t commands) (cut_after s command)
+  cut_all s (command ∷ commands) = cut_all (after s command) commands ∙ ap (λ (t : PartState). after_all t commands) (cut_after s command)

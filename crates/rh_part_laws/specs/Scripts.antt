@@ -3,11 +3,11 @@ use Rattle.std.specs.Prelude.{◌≡◌, ℕ, List, map, Ok}
 use Rattle.rh_edit.specs.Held.{Held}
 use Rattle.rh_script.specs.Instruction.{Instruction, Numbered}
 use Rattle.rh_script_run.specs.Meaning.{ScriptState, keys_at_path, table_at}
-use Rattle.rh_part_laws.specs.Commands.{State}
+use Rattle.rh_part_laws.specs.Commands.{PartState}
 
 -- A script has these keys and these lists. What stands at a path is the list there, if it is a key file, and has the keys
 -- there, if it is a snapshot.
-pub record Has (w : ScriptState) (s : State) : Type 0 where
+pub record Has (w : ScriptState) (s : PartState) : Type 0 where
   pub held : w.held ≡ s.held
   pub lists : w.lists ≡ s.lists
   pub files : (path keys : List ℕ) → keys_at_path (w.files path) ≡ Ok keys → keys ≡ s.files path

@@ -12,12 +12,12 @@ ghost use Rattle.rh_script_run.specs.Files.{HasFiles};
 ghost use Rattle.rh_script_run.specs.Meaning.{ScriptState, meaning, start};
 ghost use Rattle.rh_combine.specs.Combine.{answer};
 ghost use Rattle.rh_combine.specs.declared.how.How.{How};
-ghost use Rattle.rh_part_laws.specs.Commands.{State, after_all, cut};
+ghost use Rattle.rh_part_laws.specs.Commands.{PartState, after_all, cut};
 ghost use Rattle.rh_part_laws.specs.Scripts.{Has, commands_of};
 
 /// What commands make of the part of all keys and lists is the part of what they make of all.
 pub fn parts_agree()
-    ensures { (passes : ℕ → Bool) (s : State) (commands : List Instruction) →
+    ensures { (passes : ℕ → Bool) (s : PartState) (commands : List Instruction) →
         cut passes (after_all s commands) ≡ after_all (cut passes s) commands }
 {}
 
@@ -25,10 +25,10 @@ pub fn parts_agree()
 /// each list that is carried out to its end holds, and leaves in files, the part of what the
 /// commands make of the whole lists, even where no table would be large enough for these.
 pub fn scripts_agree()
-    ensures meant { (s : State) (w made : ScriptState) (steps : List Numbered)
+    ensures meant { (s : PartState) (w made : ScriptState) (steps : List Numbered)
         (accounts : List Account) → Has w s → meaning w steps ≡ Ok (made, accounts) →
         Has made (after_all s (commands_of steps)) }
-    ensures part { (passes : ℕ → Bool) (s : State) (files : Files) (steps : List Numbered)
+    ensures part { (passes : ℕ → Bool) (s : PartState) (files : Files) (steps : List Numbered)
         (old new : Environment) (report : Report) → Has (start files) (cut passes s) →
         Ends files steps old new (Ok report) →
         (made : ScriptState) × Has made (cut passes (after_all s (commands_of steps)))

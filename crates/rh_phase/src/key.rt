@@ -53,7 +53,7 @@ pub fn do_key<R: Wait>(
             key,
         };
         match task.try_key(seat, seen, news, entries) {
-            Tried::Done(told) => return Some(told),
+            Tried::Done(answer) => return Some(answer),
             Tried::Spent => return None,
             Tried::Again | Tried::Longer => {}
         }

@@ -10,7 +10,7 @@ use Rattle.rh_interleaving.specs.declared.fault.PlayFault.{PlayFault}
 use Rattle.rh_interleaving.specs.declared.fault.PlayFault.TheVariants.{BadKey, NoRoom}
 use Rattle.rh_interleaving.specs.Start.{Refuses, StartsPieces, StartsShared, are_keys, keys_of_pieces, start_fault}
 use Rattle.rh_play_text.specs.declared.play.Play.{Play}
-use Rattle.rh_play_text.specs.declared.play.Rooms as said
+use Rattle.rh_play_text.specs.declared.play.PlayRooms as said
 use Rattle.rh_play_text.specs.declared.play.Work.TheVariants.{Pieces, Share}
 use Rattle.rh_play_text.specs.declared.play.Work.{Work}
 
@@ -33,7 +33,7 @@ work_keys (Pieces pieces) = keys_of_pieces pieces.items
 work_keys (Share workers keys) = keys.items
 
 -- the rooms that are said, or the usual ones
-abbrev pub rooms_in : Option said.Rooms → Rooms
+abbrev pub rooms_in : Option said.PlayRooms → Rooms
 rooms_in None = usual_rooms
 rooms_in (Some rooms) = record { descriptors = rooms.descriptors; marks = rooms.marks }
 

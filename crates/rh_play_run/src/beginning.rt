@@ -102,7 +102,7 @@ fn player_on(alloc: Global, cells: &[u64], play: &Play) -> Result<Player, PlayFa
 }
 
 /// The rooms that a play says.
-fn rooms_for(said: rh_play_text::Rooms) -> Rooms
+fn rooms_for(said: rh_play_text::PlayRooms) -> Rooms
     ensures same { result ≡ record { descriptors = said.descriptors; marks = said.marks } }
     ensures limits { IsRooms result }
 {

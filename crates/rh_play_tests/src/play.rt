@@ -285,6 +285,6 @@ fn the_limits_are_these(rt: HostRuntime) {
     assert_eq!(rt; MAX_TEXT_BYTES, 1_048_576);
     assert_eq!(rt; MIN_BITS, 3);
     assert_eq!(rt; MAX_BITS, 18);
-    assert_eq!(rt; MAX_ROOM, 100_000);
+    assert_eq!(rt; MAX_PLAY_ROOM, 100_000);
     assert_eq!(rt; MAX_TURNS, 1_000_000);
 }

@@ -22,6 +22,6 @@ fn a_worker_begins_a_key(rt: HostRuntime) -> Result<(), Fail> {
     worker.begin(9);
     assert!(rt; !worker.is_idle() && !worker.is_spent());
     assert_eq!(rt; worker.key, 9);
-    assert!(rt; matches!(worker.stage, Stage::Scan { seen: 0, .. }));
+    assert!(rt; matches!(worker.stage, KeyStage::Scan { seen: 0, .. }));
     Ok(())
 }

@@ -11,11 +11,11 @@ use Rattle.rh_ledger.specs.declared.tally.Kind.TheVariants.{Insert, Remove, Ask}
 use Rattle.rh_play_text.specs.declared.fault.PlayTextFault.{PlayTextFault}
 use Rattle.rh_play_text.specs.declared.fault.PlayTextKind.{PlayTextKind}
 use Rattle.rh_play_text.specs.declared.fault.PlayTextKind.TheVariants.{BadLine, TooLong}
-use Rattle.rh_play_text.specs.declared.limits.TheConstants.{MAX_TEXT_BYTES, MIN_BITS, MAX_BITS, MAX_ROOM, MAX_TURNS, MAX_DIGITS}
+use Rattle.rh_play_text.specs.declared.limits.TheConstants.{MAX_TEXT_BYTES, MIN_BITS, MAX_BITS, MAX_PLAY_ROOM, MAX_TURNS, MAX_DIGITS}
 use Rattle.rh_play_text.specs.declared.schedule.Order.TheVariants.{Turn, Until, Rest, Round, Show}
 use Rattle.rh_play_text.specs.declared.verb.Verb.{Verb}
 use Rattle.rh_play_text.specs.declared.verb.Verb.TheVariants as verbs
-use Rattle.rh_play_text.specs.Saying.{Saying, Play, Bits, Held, Rooms, Work, Share, Schedule, Stage, AtStart, AfterPlay, AfterBits, AfterHeld, AfterRooms, AmongWork, AmongSchedule}
+use Rattle.rh_play_text.specs.Saying.{Saying, Play, Bits, Held, Rooms, Work, Share, Schedule, TextStage, AtStart, AfterPlay, AfterBits, AfterHeld, AfterRooms, AmongWork, AmongSchedule}
 use Rattle.rh_lines.specs.Lines.{lines_of, without_return}
 use Rattle.rh_lines.specs.Grammar.{◌>>=◌, Grammar, at_line, no_word, read_by}
 use Rattle.rh_lines.specs.Grammar as texts
@@ -122,13 +122,13 @@ is_within least most n = nat_le least n && nat_le n most
 -- the numbers lie in their ranges
 unfoldable pub fits : Saying → Bool
 fits (Bits bits) = is_within MIN_BITS MAX_BITS bits
-fits (Rooms descriptors marks) = is_within 1 MAX_ROOM descriptors && is_within 1 MAX_ROOM marks
+fits (Rooms descriptors marks) = is_within 1 MAX_PLAY_ROOM descriptors && is_within 1 MAX_PLAY_ROOM marks
 fits (Schedule (Turn worker turns)) = is_within 1 MAX_TURNS turns
 fits _ = true
 
 -- how far a text has come after a line, if that may stand there
 -- `play ask`, `bits 3`, `held 9`, `work 1`, `rest` are a play; its first three lines alone are a bad line at line 4
-unfoldable pub follow : Stage → Saying → Option Stage
+unfoldable pub follow : TextStage → Saying → Option TextStage
 follow AtStart (Play kind) = Some AfterPlay
 follow AfterPlay (Bits bits) = Some AfterBits
 follow AfterBits (Held keys) = Some AfterHeld
@@ -144,7 +144,7 @@ follow _ _ = None
 
 -- how far a text has come, and what was said on the way
 abbrev pub Way : Type 0
-Way = Stage × List Saying
+Way = TextStage × List Saying
 
 unfoldable pub entered : Way → Saying → Result Way PlayTextKind
 entered way said =

@@ -6,10 +6,10 @@ use Rattle.rh_play_text.specs.declared.draft.Draft.TheVariants.{Empty, Named, Si
 use Rattle.rh_play_text.specs.declared.draft.Table.{Table}
 use Rattle.rh_play_text.specs.declared.fault.PlayTextKind.{PlayTextKind}
 use Rattle.rh_play_text.specs.declared.fault.PlayTextKind.TheVariants.{Memory}
-use Rattle.rh_play_text.specs.declared.line.Line.{Line}
-use Rattle.rh_play_text.specs.declared.line.Line.TheVariants as lines
+use Rattle.rh_play_text.specs.declared.line.TextLine.{TextLine}
+use Rattle.rh_play_text.specs.declared.line.TextLine.TheVariants as lines
 use Rattle.rh_play_text.specs.declared.play.Play as plays
-use Rattle.rh_play_text.specs.declared.play.Rooms as rooms
+use Rattle.rh_play_text.specs.declared.play.PlayRooms as rooms
 use Rattle.rh_play_text.specs.declared.play.Work as works
 use Rattle.rh_play_text.specs.declared.play.Work.TheVariants as work
 use Rattle.rh_play_text.specs.declared.schedule.Order.{Order}
@@ -22,7 +22,7 @@ use Rattle.rh_play_text.specs.Grammar.{Way}
 abbrev pub Answers : {X Y : Type 0} → Result Y PlayTextKind → (X → Y) → Result X PlayTextKind → Type 0
 Answers = texts.AnswersExcept Memory
 
-abbrev pub saying_as : Line → Saying
+abbrev pub saying_as : TextLine → Saying
 saying_as (lines.Play kind) = Play kind
 saying_as (lines.Bits bits) = Bits bits
 saying_as (lines.Held keys) = Held keys.items
@@ -32,7 +32,7 @@ saying_as (lines.Share workers keys) = Share workers keys.items
 saying_as (lines.Schedule order) = Schedule order
 
 -- the line that gives the rooms, if they are given
-abbrev pub rooms_said : Option rooms.Rooms → List Saying
+abbrev pub rooms_said : Option rooms.PlayRooms → List Saying
 rooms_said None = []
 rooms_said (Some r) = Rooms r.descriptors r.marks ∷ []
 

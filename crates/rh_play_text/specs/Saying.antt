@@ -13,11 +13,11 @@ pub data Saying : Type 0 where
   Schedule : (order : Order) → Saying
 
 -- what the last line was, and so what may come next
-pub data Stage : Type 0 where
-  AtStart : Stage
-  AfterPlay : Stage
-  AfterBits : Stage
-  AfterHeld : Stage
-  AfterRooms : Stage
-  AmongWork : Stage
-  AmongSchedule : Stage
+pub data TextStage : Type 0 where
+  AtStart : TextStage
+  AfterPlay : TextStage
+  AfterBits : TextStage
+  AfterHeld : TextStage
+  AfterRooms : TextStage
+  AmongWork : TextStage
+  AmongSchedule : TextStage

@@ -5,8 +5,8 @@ ghost use Rattle.rh_play_text.specs.Grammar.{saying_ended, entered, fits};
 ghost use Rattle.rh_play_text.specs.Play.{Answers, said_of, saying_as, way_of, with_work};
 
 use crate::fault::PlayTextKind;
-use crate::line::Line;
-use crate::play::{Bits, Play, Rooms, Work};
+use crate::line::TextLine;
+use crate::play::{Bits, Play, PlayRooms, Work};
 use crate::schedule::Order;
 use rh_ledger::Kind;
 use std::alloc::Global;
@@ -17,7 +17,7 @@ pub(crate) struct Table {
     kind: Kind,
     bits: Bits,
     held: Vec<u64>,
-    rooms: Option<Rooms>,
+    rooms: Option<PlayRooms>,
 }
 
 /// What the lines so far gave.
@@ -34,7 +34,7 @@ pub(crate) enum Draft {
 
 impl Draft {
     /// Takes what the next line gives, if it may stand there.
-    pub(crate) fn enter(self, alloc: Global, line: Line) -> Result<Draft, PlayTextKind>
+    pub(crate) fn enter(self, alloc: Global, line: TextLine) -> Result<Draft, PlayTextKind>
         ensures { Answers (entered (way_of self) (saying_as line)) way_of result }
     {
         if !line.fits() {
@@ -44,21 +44,21 @@ impl Draft {
     }
 
     /// Takes what the next line gives, whose numbers lie in their ranges.
-    fn follow(self, alloc: Global, line: Line) -> Result<Draft, PlayTextKind>
+    fn follow(self, alloc: Global, line: TextLine) -> Result<Draft, PlayTextKind>
         requires { IsTrue (fits (saying_as line)) }
         ensures { Answers (entered (way_of self) (saying_as line)) way_of result }
     {
         match self {
             Draft::Empty => match line {
-                Line::Play(kind) => Ok(Draft::Named(kind)),
+                TextLine::Play(kind) => Ok(Draft::Named(kind)),
                 _ => Err(PlayTextKind::BadLine),
             },
             Draft::Named(kind) => match line {
-                Line::Bits(value) => Ok(Draft::Sized(kind, Bits { value })),
+                TextLine::Bits(value) => Ok(Draft::Sized(kind, Bits { value })),
                 _ => Err(PlayTextKind::BadLine),
             },
             Draft::Sized(kind, bits) => match line {
-                Line::Held(held) => Ok(Draft::Filled(kind, bits, held)),
+                TextLine::Held(held) => Ok(Draft::Filled(kind, bits, held)),
                 _ => Err(PlayTextKind::BadLine),
             },
             Draft::Filled(kind, bits, held) => fill(alloc, kind, bits, held, line),
@@ -105,18 +105,18 @@ fn fill(
     kind: Kind,
     bits: Bits,
     held: Vec<u64>,
-    line: Line,
+    line: TextLine,
 ) -> Result<Draft, PlayTextKind>
     requires { IsTrue (fits (saying_as line)) }
     ensures { Answers (entered (way_of (Draft.Filled kind bits held)) (saying_as line)) way_of
         result }
 {
     match line {
-        Line::Rooms { descriptors, marks } => Ok(Draft::Roomed(Table {
+        TextLine::Rooms { descriptors, marks } => Ok(Draft::Roomed(Table {
             kind,
             bits,
             held,
-            rooms: Some(Rooms { descriptors, marks }),
+            rooms: Some(PlayRooms { descriptors, marks }),
         })),
         other => begin(
             alloc,
@@ -132,17 +132,17 @@ fn fill(
 }
 
 /// Takes the first line of work.
-fn begin(alloc: Global, table: Table, line: Line) -> Result<Draft, PlayTextKind>
+fn begin(alloc: Global, table: Table, line: TextLine) -> Result<Draft, PlayTextKind>
     requires { IsTrue (fits (saying_as line)) }
     ensures { Answers (entered (way_of (Draft.Roomed table)) (saying_as line)) way_of result }
 {
     match line {
-        Line::Work(keys) => {
+        TextLine::Work(keys) => {
             let mut pieces = Vec::new(alloc);
             pieces.push(keys)?;
             Ok(Draft::Working(table, pieces))
         }
-        Line::Share { workers, keys } => {
+        TextLine::Share { workers, keys } => {
             let work = Work::Share { workers, keys };
             Ok(Draft::Scheduled(table.with_work(work, Vec::new(alloc))))
         }
@@ -155,18 +155,18 @@ fn work_on(
     alloc: Global,
     table: Table,
     mut pieces: Vec<Vec<u64>>,
-    line: Line,
+    line: TextLine,
 ) -> Result<Draft, PlayTextKind>
     requires { IsTrue (fits (saying_as line)) }
     ensures { Answers (entered (way_of (Draft.Working table pieces)) (saying_as line)) way_of
         result }
 {
     match line {
-        Line::Work(keys) => {
+        TextLine::Work(keys) => {
             pieces.push(keys)?;
             Ok(Draft::Working(table, pieces))
         }
-        Line::Schedule(order) => {
+        TextLine::Schedule(order) => {
             let mut schedule = Vec::new(alloc);
             schedule.push(order)?;
             Ok(Draft::Scheduled(table.with_work(Work::Pieces(pieces), schedule)))
@@ -176,12 +176,12 @@ fn work_on(
 }
 
 /// Takes a line of the schedule.
-fn schedule(mut play: Play, line: Line) -> Result<Draft, PlayTextKind>
+fn schedule(mut play: Play, line: TextLine) -> Result<Draft, PlayTextKind>
     requires { IsTrue (fits (saying_as line)) }
     ensures { Answers (entered (way_of (Draft.Scheduled play)) (saying_as line)) way_of result }
 {
     match line {
-        Line::Schedule(order) => {
+        TextLine::Schedule(order) => {
             play.schedule.push(order)?;
             Ok(Draft::Scheduled(play))
         }

@@ -10,7 +10,7 @@ pub const MIN_BITS: u64 = 3;
 pub const MAX_BITS: u64 = 18;
 
 /// The largest room for descriptors, and for marks.
-pub const MAX_ROOM: u64 = 100_000;
+pub const MAX_PLAY_ROOM: u64 = 100_000;
 
 /// The most turns that a line may ask for.
 pub const MAX_TURNS: u64 = 1_000_000;

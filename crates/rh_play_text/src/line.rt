@@ -9,7 +9,7 @@ ghost use Rattle.rh_play_text.specs.Play.{Answers, saying_as};
 ghost use Rattle.rh_play_text.specs.Saying.{Schedule};
 
 use crate::fault::PlayTextKind;
-use crate::limits::{MAX_BITS, MAX_ROOM, MAX_TURNS, MIN_BITS};
+use crate::limits::{MAX_BITS, MAX_PLAY_ROOM, MAX_TURNS, MIN_BITS};
 use crate::numbers::{number, numbers, one_number, two_numbers};
 use crate::schedule::Order;
 use crate::verb::{Verb, kind_from_word, step_from_word};
@@ -20,7 +20,7 @@ use std::alloc::Global;
 
 /// A line that is not skipped.
 #[derive(Drop)]
-pub(crate) enum Line {
+pub(crate) enum TextLine {
     Play(Kind),
     Bits(u64),
     Held(Vec<u64>),
@@ -30,30 +30,30 @@ pub(crate) enum Line {
     Schedule(Order),
 }
 
-impl Line {
+impl TextLine {
     /// Whether its numbers lie in their ranges.
     #[tactic(auto, unfolding(crate::specs::Grammar::fits))]
     pub(crate) fn fits(&self) -> bool
         ensures { result ≡ fits (saying_as self.now) }
     {
         match self {
-            Line::Bits(bits) => MIN_BITS <= *bits && *bits <= MAX_BITS,
-            Line::Rooms { descriptors, marks } => is_room(*descriptors) && is_room(*marks),
-            Line::Schedule(Order::Turn { turns, .. }) => 1 <= *turns && *turns <= MAX_TURNS,
+            TextLine::Bits(bits) => MIN_BITS <= *bits && *bits <= MAX_BITS,
+            TextLine::Rooms { descriptors, marks } => is_room(*descriptors) && is_room(*marks),
+            TextLine::Schedule(Order::Turn { turns, .. }) => 1 <= *turns && *turns <= MAX_TURNS,
             _ => true,
         }
     }
 }
 
 fn is_room(room: u64) -> bool
-    ensures { result ≡ is_within 1 MAX_ROOM room }
+    ensures { result ≡ is_within 1 MAX_PLAY_ROOM room }
 {
-    1 <= room && room <= MAX_ROOM
+    1 <= room && room <= MAX_PLAY_ROOM
 }
 
 /// What a line says, if it is not skipped.
 #[tactic(auto, unfolding(rh_lines::specs::Grammar::line_said))]
-pub(crate) fn read_said(alloc: Global, line: &[u8]) -> Result<Option<Line>, PlayTextKind>
+pub(crate) fn read_said(alloc: Global, line: &[u8]) -> Result<Option<TextLine>, PlayTextKind>
     ensures { Answers (said_in line.now) (option_map saying_as) result }
 {
     if is_skipped(line) {
@@ -62,12 +62,12 @@ pub(crate) fn read_said(alloc: Global, line: &[u8]) -> Result<Option<Line>, Play
     let Some(text) = printable(line) else {
         return Err(PlayTextKind::BadLine);
     };
-    let said = said(alloc, text)?;
+    let said = parse_words(alloc, text)?;
     Ok(Some(said))
 }
 
 #[tactic(auto, unfolding(crate::specs::Grammar::saying_in))]
-fn said(alloc: Global, text: &str) -> Result<Line, PlayTextKind>
+fn parse_words(alloc: Global, text: &str) -> Result<TextLine, PlayTextKind>
     ensures { Answers (saying_in (words_of text.now)) saying_as result }
 {
     let Some((word, rest)) = next_word(text) else {
@@ -76,30 +76,30 @@ fn said(alloc: Global, text: &str) -> Result<Line, PlayTextKind>
     let Some(verb) = Verb::from_word(word) else {
         return Err(PlayTextKind::BadLine);
     };
-    said_after(alloc, verb, rest)
+    parse_after(alloc, verb, rest)
 }
 
 #[tactic(auto, unfolding(crate::specs::Grammar::saying_of))]
-fn said_after(alloc: Global, verb: Verb, rest: &str) -> Result<Line, PlayTextKind>
+fn parse_after(alloc: Global, verb: Verb, rest: &str) -> Result<TextLine, PlayTextKind>
     ensures { Answers (saying_of verb (words_of rest.now)) saying_as result }
 {
     Ok(match verb {
-        Verb::Play => Line::Play(one_kind(rest)?),
-        Verb::Bits => Line::Bits(one_number(rest)?),
-        Verb::Held => Line::Held(numbers(alloc, rest)?),
+        Verb::Play => TextLine::Play(one_kind(rest)?),
+        Verb::Bits => TextLine::Bits(one_number(rest)?),
+        Verb::Held => TextLine::Held(numbers(alloc, rest)?),
         Verb::Rooms => {
             let (descriptors, marks) = two_numbers(rest)?;
-            Line::Rooms { descriptors, marks }
+            TextLine::Rooms { descriptors, marks }
         }
-        Verb::Work => Line::Work(numbers(alloc, rest)?),
+        Verb::Work => TextLine::Work(numbers(alloc, rest)?),
         Verb::Share => share_line(alloc, rest)?,
         Verb::Turn => {
             let (worker, turns) = two_numbers(rest)?;
-            Line::Schedule(Order::Turn { worker, turns })
+            TextLine::Schedule(Order::Turn { worker, turns })
         }
         Verb::Until => {
             let (worker, step) = number_and_step(rest)?;
-            Line::Schedule(Order::Until { worker, step })
+            TextLine::Schedule(Order::Until { worker, step })
         }
         Verb::Rest => alone(Order::Rest, rest)?,
         Verb::Round => alone(Order::Round, rest)?,
@@ -144,7 +144,7 @@ fn number_and_step(rest: &str) -> Result<(u64, StepKind), PlayTextKind>
 
 /// The number of workers, and the keys that they share.
 #[tactic(auto, unfolding(crate::specs::Grammar::shared))]
-fn share_line(alloc: Global, rest: &str) -> Result<Line, PlayTextKind>
+fn share_line(alloc: Global, rest: &str) -> Result<TextLine, PlayTextKind>
     ensures { Answers (shared (words_of rest.now)) saying_as result }
 {
     let Some((word, rest)) = next_word(rest) else {
@@ -152,17 +152,17 @@ fn share_line(alloc: Global, rest: &str) -> Result<Line, PlayTextKind>
     };
     let workers = number(word)?;
     let keys = numbers(alloc, rest)?;
-    Ok(Line::Share { workers, keys })
+    Ok(TextLine::Share { workers, keys })
 }
 
 /// An order of one word.
 #[tactic(auto, unfolding(rh_lines::specs::Grammar::no_word))]
-fn alone(order: Order, rest: &str) -> Result<Line, PlayTextKind>
+fn alone(order: Order, rest: &str) -> Result<TextLine, PlayTextKind>
     ensures { Answers (no_word PlayTextKind.BadLine (Schedule order) (words_of rest.now)) saying_as
         result }
 {
     let Some(()) = end_of_words(rest) else {
         return Err(PlayTextKind::BadLine);
     };
-    Ok(Line::Schedule(order))
+    Ok(TextLine::Schedule(order))
 }

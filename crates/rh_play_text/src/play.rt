@@ -1,7 +1,7 @@
 //! Plays that were read.
 
 ghost use Rattle.std.specs.Prelude.{◌≤◌};
-ghost use Rattle.rh_play_text.specs.declared.limits.TheConstants.{MIN_BITS, MAX_BITS, MAX_ROOM};
+ghost use Rattle.rh_play_text.specs.declared.limits.TheConstants.{MIN_BITS, MAX_BITS, MAX_PLAY_ROOM};
 
 use crate::schedule::Order;
 use rh_ledger::Kind;
@@ -16,13 +16,13 @@ pub struct Bits {
 
 /// How many descriptors and marks each worker may number in a round.
 #[derive(Clone, Copy, Debug, PartialEq, Eq)]
-pub struct Rooms {
+pub struct PlayRooms {
     pub descriptors: u64,
     pub marks: u64,
     ghost some_descriptors: { 1 ≤ descriptors },
-    ghost most_descriptors: { descriptors ≤ MAX_ROOM },
+    ghost most_descriptors: { descriptors ≤ MAX_PLAY_ROOM },
     ghost some_marks: { 1 ≤ marks },
-    ghost most_marks: { marks ≤ MAX_ROOM },
+    ghost most_marks: { marks ≤ MAX_PLAY_ROOM },
 }
 
 /// The keys of the workers.
@@ -42,7 +42,7 @@ pub struct Play {
     /// The keys that the table holds at first.
     pub held: Vec<u64>,
     /// `None` stands for the usual rooms.
-    pub rooms: Option<Rooms>,
+    pub rooms: Option<PlayRooms>,
     pub work: Work,
     pub schedule: Vec<Order>,
 }

@@ -19,7 +19,7 @@ pub use rh_play_run::{
     DrawFault, MAX_TOLD, PlayRunFault, TellFault, Telling, draw_play, run_play, tell_play,
 };
 pub use rh_play_text::{
-    Bits, Order, Play, PlayTextFault, PlayTextKind, Rooms as PlayRooms, Work, parse_play,
+    Bits, Order, Play, PlayRooms, PlayTextFault, PlayTextKind, Work, parse_play,
 };
 pub use rh_recorder::Touched;
 pub use rh_turns::Turn;

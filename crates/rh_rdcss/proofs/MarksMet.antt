@@ -76,8 +76,8 @@ learned_as z k next asks s word is l = subst (λ (q : Step). Learned z q k word 
 -- ---- the control is read
 
 -- a control word tells a state, or that it is of a later descriptor
-pub control_told : (number word : ℕ) → (r : Option State) × (option_map control_of r ≡ state_said number word)
-control_told number word = by (eqb (serial_in word) number)
+pub state_of_control : (number word : ℕ) → (r : Option State) × (option_map control_of r ≡ state_said number word)
+state_of_control number word = by (eqb (serial_in word) number)
   where
     of_state : (o : Option State) → (k : State) × (control_of k ≡ control_said o)
     of_state None = (Withdrawn, refl)
@@ -92,7 +92,7 @@ pub own_settles : (z : Shape) (k : Sitter) (x : Reference) (p : Piece) → IsFou
     → (word : ℕ) (next : Sitter) → Learned z (asked_of_mark (settles.Control x p)) k word next
     → Allowed z next.view (asked_of_mark (settles.Settle x p (own_target old (state_said p.desc.number word))))
 own_settles z k x p h old noted word next l =
-    let r = control_told p.desc.number word in
+    let r = state_of_control p.desc.number word in
     let saw = saw_mark_control k.view (ref_of x) (ref_of p.desc) p.cell _ word l.finds r.0 r.1 next.view l.view_is in
     subst (λ (o : Option Control). Allowed z next.view (asked_of_mark (settles.Settle x p (own_target old o)))) r.1 (so saw.0.keeps r.0 saw.2)
   where

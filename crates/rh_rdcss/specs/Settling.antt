@@ -29,11 +29,11 @@ Recalls v x (Some own) = (own.mark ≡ x) × NotesMark v own
 
 -- The steps with a mark from this stage on, each by the word that the one before it found. The answer is the word that the
 -- Settle found; or none, where a Read showed that the mark or its descriptor is stale, and no Settle was made.
-pub data Runs (z : Shape) : Settles → Sitter → (answer : Option ℕ) → Sitter → Type 0 where
-  settled : {s : Settles} {k next : Sitter} {word : ℕ} → kind_of_settling s ≡ kind.Settle → Learned z (asked_of_mark s) k word next → Runs z s k (Some word) next
-  left : {s : Settles} {k next : Sitter} (word : ℕ) → kind_of_settling s ≡ kind.Read → Learned z (asked_of_mark s) k word next → GoesOn s word None → Runs z s k None next
+pub data RunsSettling (z : Shape) : Settles → Sitter → (answer : Option ℕ) → Sitter → Type 0 where
+  settled : {s : Settles} {k next : Sitter} {word : ℕ} → kind_of_settling s ≡ kind.Settle → Learned z (asked_of_mark s) k word next → RunsSettling z s k (Some word) next
+  left : {s : Settles} {k next : Sitter} (word : ℕ) → kind_of_settling s ≡ kind.Read → Learned z (asked_of_mark s) k word next → GoesOn s word None → RunsSettling z s k None next
   goes : {s then : Settles} {k middle next : Sitter} {answer : Option ℕ} (word : ℕ) → Learned z (asked_of_mark s) k word middle → GoesOn s word (Some then)
-      → Runs z then middle answer next → Runs z s k answer next
+      → RunsSettling z then middle answer next → RunsSettling z s k answer next
 
 -- The own mark is settled to its descriptor where the control tells that it is undecided. Else it is settled to the old value,
 -- which its worker keeps: so also where the descriptor is stale.
@@ -59,5 +59,5 @@ SettlesMine z c (Some own) k (Some word) next = SettlesOwn z c own k word next
 
 -- So of a mark of another worker, whose row is read first and which may be left; the own one is settled in any case.
 pub record SettlesMark (z : Shape) (c : ℕ) (x : Reference) (kept : Option OwnMark) (k : Sitter) (r : Option ℕ) (next : Sitter) : Type 0 where
-  pub foreign : (x.worker ≡ k.view.worker → ⊥) → Runs z (settles.Desc x c) k r next
+  pub foreign : (x.worker ≡ k.view.worker → ⊥) → RunsSettling z (settles.Desc x c) k r next
   pub own : x.worker ≡ k.view.worker → SettlesMine z c kept k r next

@@ -15,7 +15,7 @@ ghost use Rattle.rh_rdcss.specs.Settling.{IsOwnUnsettled, Recalls, SettlesMark};
 
 use crate::making::make;
 use crate::placing::{place_there, read_entry};
-use crate::reading::status_told;
+use crate::reading::status_by;
 use crate::settling::{settle_met, settle_own};
 use rh_shared::{Seat, Table};
 use rh_tagword::State;
@@ -61,7 +61,7 @@ pub fn status(table: &Table, seat: &mut Seat, desc: Ref) -> Option<State>
     ensures unsettled { (view_of seat.new).side.unsettled ≡ (view_of seat.old).side.unsettled }
 {
     let word = make(table, seat, Request::Read(Reading::Control(desc)));
-    status_told(desc, word)
+    status_by(desc, word)
 }
 
 /// Reads how many entries a descriptor has, and then whether its row is still of it: none where it

@@ -21,10 +21,10 @@
 //!   knows by it. `status` answers no state just where the control was of a later descriptor of
 //!   that worker, and `Unused` where it was of an earlier one.
 //! - `count_entries` is for a descriptor that the worker opened or whose control it read as not
-//!   `Unused`: its length is read in the row, or it is told that the row is of a later one.
+//!   `Unused`: its length is read in the row, or the row says that it is of a later one.
 //! - `place` is for an entry that the worker knows: of its own descriptor, or of one whose length
 //!   it read. The entry is read in the row, and the mark row is written. Then the next own mark is
-//!   put into the cell where the old value was found; else that other word is told.
+//!   put into the cell where the old value was found; else that other word is answered.
 //! - `place` answers `Passed` just where the descriptor was stale; no mark was used then. `Spent`
 //!   comes just where no mark was left, and nothing was done.
 //! - `settle` of another worker's mark is a run of the stages of `Settling` of `rh_helping`: the

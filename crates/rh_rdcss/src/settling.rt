@@ -11,10 +11,10 @@ ghost use Rattle.rh_helping.specs.Next.{Settles};
 ghost use Rattle.rh_shared.specs.Rests.{SeatKnows, StaysKnown};
 ghost use Rattle.rh_shared.specs.Seats.{sitter_of, view_of};
 ghost use Rattle.rh_rdcss.specs.Placing.{NotesMark};
-ghost use Rattle.rh_rdcss.specs.Settling.{IsOwnUnsettled, Runs, SettlesOwn, own_target};
+ghost use Rattle.rh_rdcss.specs.Settling.{IsOwnUnsettled, RunsSettling, SettlesOwn, own_target};
 
 use crate::making::make;
-use rh_helping::{Settling, SettlingAt, state_told};
+use rh_helping::{Settling, SettlingAt, state_by};
 use rh_shared::{OwnMark, Seat, Table};
 use rh_tagword::State;
 use rh_words::{Piece, Ref, StepKind};
@@ -24,8 +24,8 @@ pub(crate) fn settle_met(table: &Table, seat: &mut Seat, cell: usize, mark: Ref)
     requires knows { SeatKnows table.now seat.old }
     requires found { In (found (ref_of mark) cell) (view_of seat.old).side.facts }
     ensures stays { StaysKnown table.now seat.old seat.new }
-    ensures settles { Runs table.now.shape (Settles.Desc mark cell) (sitter_of seat.old) result
-        (sitter_of seat.new) }
+    ensures settles { RunsSettling table.now.shape (Settles.Desc mark cell) (sitter_of seat.old)
+        result (sitter_of seat.new) }
 {
     let mut settling = Settling::met(mark, cell);
     loop {
@@ -74,7 +74,7 @@ fn go_on_own(settling: &mut Settling, word: u64)
     ensures { settling_of settling.new ≡ Settles.Settle settling.old.mark settling.old.piece
         (own_target settling.old.value (state_said settling.old.piece.desc.number word)) }
 {
-    settling.at = match state_told(settling.piece.desc, word) {
+    settling.at = match state_by(settling.piece.desc, word) {
         Some(State::Undecided) => SettlingAt::Promote,
         _ => SettlingAt::Demote,
     };

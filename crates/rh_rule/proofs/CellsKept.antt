@@ -26,7 +26,7 @@ use Rattle.rh_words.specs.Steps.{CanRelease, CanSettle, IsReleased, KnowsValue, 
 use Rattle.rh_rule.specs.Erased.{erased}
 use Rattle.rh_rule.specs.Represents.{Cells, IsCell, Kept, cell_number, numbers_of, Represents}
 use Rattle.rh_rule.specs.Core.{Core}
-use Rattle.rh_rule.proofs.Deciders.{told_value}
+use Rattle.rh_rule.proofs.Deciders.{read_as_value}
 use Rattle.rh_rule.proofs.Erasing.{erased_either, erased_release, erased_settle}
 use Rattle.rh_rule.proofs.Frames.{word_new, word_same}
 use Rattle.rh_rule.proofs.Kept.{Grows, Over, Quiet, kept_stays, represents, over_grows, quiet}
@@ -272,7 +272,7 @@ module _ (z : Shape) (words : List ℕ) (keep : ℕ → View) (w : World) (side 
   released_by : (d : Ref) (e : ℕ) (r : Control) (value : ℕ) → without_entry (w.control d) ≡ r → IsReleased k d e r value
       → value ≡ entry_value (w.control d) (w.old d e) (w.new d e)
   released_by d e r value is may =
-      value_of r may ∙ ap (λ (x : Control). entry_value x (w.old d e) (w.new d e)) (sym is) ∙ told_value (w.control d) (w.old d e) (w.new d e)
+      value_of r may ∙ ap (λ (x : Control). entry_value x (w.old d e) (w.new d e)) (sym is) ∙ read_as_value (w.control d) (w.old d e) (w.new d e)
     where
       value_of : (r : Control) → IsReleased k d e r value → value ≡ entry_value r (w.old d e) (w.new d e)
       value_of unused q = absurd q

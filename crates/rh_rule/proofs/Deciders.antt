@@ -10,43 +10,43 @@ use Rattle.rh_words.specs.View.{View}
 use Rattle.rh_words.specs.Words.{control_word_of, state_of, with_entry, without_entry}
 use Rattle.rh_words.specs.Steps.{IsResult}
 
-pub told_decided : (k : Control) → IsDecided k → IsDecided (without_entry k)
-told_decided unused h = h
-told_decided _ h = h
+pub read_as_decided : (k : Control) → IsDecided k → IsDecided (without_entry k)
+read_as_decided unused h = h
+read_as_decided _ h = h
 
-pub told_unused : (k : Control) → without_entry k ≡ unused → k ≡ unused
-told_unused unused e = refl
-told_unused _ e = cc
+pub read_as_unused : (k : Control) → without_entry k ≡ unused → k ≡ unused
+read_as_unused unused e = refl
+read_as_unused _ e = cc
 
-pub told_withdrawn : (k : Control) → without_entry k ≡ withdrawn → k ≡ withdrawn
-told_withdrawn withdrawn e = refl
-told_withdrawn _ e = cc
+pub read_as_withdrawn : (k : Control) → without_entry k ≡ withdrawn → k ≡ withdrawn
+read_as_withdrawn withdrawn e = refl
+read_as_withdrawn _ e = cc
 
-pub told_succeeded : (k : Control) → without_entry k ≡ succeeded → k ≡ succeeded
-told_succeeded succeeded e = refl
-told_succeeded _ e = cc
+pub read_as_succeeded : (k : Control) → without_entry k ≡ succeeded → k ≡ succeeded
+read_as_succeeded succeeded e = refl
+read_as_succeeded _ e = cc
 
-pub told_success : (k : Control) → is_success (without_entry k) ≡ is_success k
-told_success unused = refl
-told_success _ = refl
+pub read_as_success : (k : Control) → is_success (without_entry k) ≡ is_success k
+read_as_success unused = refl
+read_as_success _ = refl
 
 -- the value that counts does not ask where it failed
-pub told_value : (k : Control) (old new : ℕ) → entry_value (without_entry k) old new ≡ entry_value k old new
-told_value unused old new = refl
-told_value _ old new = refl
+pub read_as_value : (k : Control) (old new : ℕ) → entry_value (without_entry k) old new ≡ entry_value k old new
+read_as_value unused old new = refl
+read_as_value _ old new = refl
 
 -- its word is the same
-pub told_number : (n : ℕ) (k : Control) → control_word_of n (without_entry k) ≡ control_word_of n k
-told_number n unused = refl
-told_number n _ = refl
+pub read_as_number : (n : ℕ) (k : Control) → control_word_of n (without_entry k) ≡ control_word_of n k
+read_as_number n unused = refl
+read_as_number n _ = refl
 
-pub told_undecided : (k : Control) → without_entry k ≡ undecided → k ≡ undecided
-told_undecided undecided e = refl
-told_undecided _ e = cc
+pub read_as_undecided : (k : Control) → without_entry k ≡ undecided → k ≡ undecided
+read_as_undecided undecided e = refl
+read_as_undecided _ e = cc
 
-pub told_failed : (k : Control) (e by : ℕ) → without_entry k ≡ failed e by → (i : ℕ) × (k ≡ failed i by)
-told_failed (failed i b) e by q = (i, (let same : b ≡ by = cc in λ t. failed i (same t)))
-told_failed _ e by q = cc
+pub read_as_failed : (k : Control) (e by : ℕ) → without_entry k ≡ failed e by → (i : ℕ) × (k ≡ failed i by)
+read_as_failed (failed i b) e by q = (i, (let same : b ≡ by = cc in λ t. failed i (same t)))
+read_as_failed _ e by q = cc
 
 -- ---- a control that a worker sets
 

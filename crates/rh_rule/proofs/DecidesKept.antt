@@ -23,7 +23,7 @@ use Rattle.rh_rule.specs.Erased.{erased}
 use Rattle.rh_rule.specs.Represents.{Controls, Kept, Represents, word_at}
 use Rattle.rh_rule.specs.Core.{Core}
 use Rattle.rh_rule.proofs.CellsKept.{rule_at, steady_at}
-use Rattle.rh_rule.proofs.Deciders.{set_decided, set_failed, set_number, set_state, told_number}
+use Rattle.rh_rule.proofs.Deciders.{set_decided, set_failed, set_number, set_state, read_as_number}
 use Rattle.rh_rule.proofs.Erasing.{erased_control, in_mismatch}
 use Rattle.rh_rule.proofs.Frames.{word_new, word_same}
 use Rattle.rh_rule.proofs.Kept.{Meets, kept_stays, represents}
@@ -229,8 +229,8 @@ module _ (z : Shape) (words : List ℕ) (keep : ℕ → View) (w : World) (side 
 
     side_is : x ≡ erased s
     side_is =
-        let told : read_control num ≡ without_entry ((world_after w who (decides d set_to)).control d) = said ∙ ap without_entry (sym now) ∙ ap (λ (y : World). without_entry (y.control d)) (sym same) in
-        (λ i. control_noted (h.side_is i) d (told i)) ∙ erased_control t d ((world_after w who (decides d set_to)).control d)
+        let reads_as : read_control num ≡ without_entry ((world_after w who (decides d set_to)).control d) = said ∙ ap without_entry (sym now) ∙ ap (λ (y : World). without_entry (y.control d)) (sym same) in
+        (λ i. control_noted (h.side_is i) d (reads_as i)) ∙ erased_control t d ((world_after w who (decides d set_to)).control d)
 
     -- d was noted as undecided at most
     not_decided : (j : Control) → In (decided d j) k.side.facts → ⊥
@@ -241,10 +241,10 @@ module _ (z : Shape) (words : List ℕ) (keep : ℕ → View) (w : World) (side 
     meets : Meets z then v who k x (control_seen k d num)
     meets = meets_seen z words keep w side rule m who mine then v (serial_same z words keep w side m p can.desc.0 num v l (λ o. o) who mine) d (read_control num) x
         (in_control k.side d (read_control num)) (λ j i. absurd (not_decided j i)) (grows_control k.side d (read_control num)) num
-        (λ q. sym (told_number d.number set_to) ∙ ap (control_word_of d.number) (sym said))
+        (λ q. sym (read_as_number d.number set_to) ∙ ap (control_word_of d.number) (sym said))
         (λ f e q. ⊎_elim
-        (λ a. let told : read_control num ≡ failed 0 who = said ∙ ap without_entry (sym now ∙ ap v.control (sym a.0) ∙ q) in
-        subst (λ (y : Ref). In (decided y (failed 0 who)) x.facts) (sym a.0) (subst (λ (c : Control). In (decided d (failed 0 who)) (control_noted k.side d c).facts) (sym told) (inl refl)))
+        (λ a. let reads_as : read_control num ≡ failed 0 who = said ∙ ap without_entry (sym now ∙ ap v.control (sym a.0) ∙ q) in
+        subst (λ (y : Ref). In (decided y (failed 0 who)) x.facts) (sym a.0) (subst (λ (c : Control). In (decided d (failed 0 who)) (control_noted k.side d c).facts) (sym reads_as) (inl refl)))
         (λ a. (grows_control k.side d (read_control num)).facts (decided f (failed 0 who)) (h.failures f e a)) (failed_or f e who q))
 
     decides_now : After num

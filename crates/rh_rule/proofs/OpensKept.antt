@@ -22,7 +22,7 @@ use Rattle.rh_rule.specs.Erased.{erased}
 use Rattle.rh_rule.specs.Represents.{Controls, DescRow, HasEntries, HasItsRow, IsOpenedSo, IsOwn, Kept, numbers_of, word_at, Represents}
 use Rattle.rh_rule.specs.Core.{Core}
 use Rattle.rh_rule.proofs.CellsKept.{rule_at, steady_at}
-use Rattle.rh_rule.proofs.Deciders.{told_number}
+use Rattle.rh_rule.proofs.Deciders.{read_as_number}
 use Rattle.rh_rule.proofs.Erasing.{erased_entries}
 use Rattle.rh_rule.proofs.Frames.{word_new, word_same}
 use Rattle.rh_rule.proofs.ReadsKept.{newest_word, true_decided, unused_or}
@@ -127,8 +127,8 @@ module _ (z : Shape) (words : List ℕ) (keep : ℕ → View) (w : World) (side 
           let known : (r : Control) × In (decided f r) k.side.facts = ⊎_elim
           (λ c. let bad : None ≡ Some listed.0.number = sym can.closed ∙ c in cc)
           (λ g. (g.0, subst (λ (i : ℕ). In (decided (record { worker = who; number = i }) g.0) k.side.facts) listed.2 g.1)) (h.over listed.0 listed.1) in
-          let told = true_decided z words keep w side rule m who mine f known.0 known.1 in
-          q.0 ∙ sym (told_number n (w.control f)) ∙ ap (control_word_of n) told.1 ∙ sym (h.control n known.0 (sym (h.next_number ∙ some)) known.1)
+          let reads_as = true_decided z words keep w side rule m who mine f known.0 known.1 in
+          q.0 ∙ sym (read_as_number n (w.control f)) ∙ ap (control_word_of n) reads_as.1 ∙ sym (h.control n known.0 (sym (h.next_number ∙ some)) known.1)
 
   abbrev v : World
   v = open_world w d es_of
@@ -221,8 +221,8 @@ module _ (z : Shape) (words : List ℕ) (keep : ℕ → View) (w : World) (side 
   not_noted : (r : Control) → In (decided d r) k'.side.facts → ⊥
   not_noted r i =
       let j = no_decided (open_side k.side k.next_number) (own_desc k) es_of size d r i in
-      let told = true_decided z words keep w side rule m who mine d r j in
-      subst IsDecided (sym told.1 ∙ ap without_entry fresh) told.0
+      let reads_as = true_decided z words keep w side rule m who mine d r j in
+      subst IsDecided (sym reads_as.1 ∙ ap without_entry fresh) reads_as.0
 
   kept : Kept z then v s who k'
   kept = record {

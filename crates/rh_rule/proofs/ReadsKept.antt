@@ -5,7 +5,7 @@ use Rattle.rh_world.specs.World.Cell.{desc, mark, plain}
 use Rattle.rh_world.specs.World.Control.{failed, succeeded, undecided, unused, withdrawn}
 use Rattle.rh_world.specs.Facts.{HoldsIn, Fact, part_of}
 use Rattle.rh_world.specs.Facts.Fact.{decided, desc_is, failed_at, found, known, may_demote, met, over, stale, size_is, which_is}
-use Rattle.rh_world.specs.Facts.Part.{of_rows}
+use Rattle.rh_world.specs.Facts.RulePart.{of_rows}
 use Rattle.rh_world.specs.Sides.{Side, note_side}
 use Rattle.rh_world.specs.Rule.{Rule}
 use Rattle.rh_world.specs.Moves.{HasSeen, IsRowFact, MayWork, cell_noted, control_noted, mark_noted, note_all, side_after}
@@ -26,7 +26,7 @@ use Rattle.rh_words.specs.Steps.{IsKnown, IsNoted, IsRead, KnowsMark, WasOpened,
 use Rattle.rh_rule.specs.Erased.{erased}
 use Rattle.rh_rule.specs.Represents.{HasItsRow, IsRaw, IsRawRow, IsRowSaid, IsSaid, Kept, MarkStands, word_at, Represents}
 use Rattle.rh_rule.specs.Core.{Core}
-use Rattle.rh_rule.proofs.Deciders.{told_decided, told_failed, told_number}
+use Rattle.rh_rule.proofs.Deciders.{read_as_decided, read_as_failed, read_as_number}
 use Rattle.rh_rule.proofs.Erasing.{IsWhole, erased_all, erased_cell, erased_control, erased_mark, in_decided, in_whole}
 use Rattle.rh_rule.proofs.Kept.{Grows, Meets, Quiet, kept_stays, represents, over_grows, quiet}
 use Rattle.rh_rule.proofs.Said.{HasState, cell_said_is, control_said_is, desc_said_is, serial_said_is}
@@ -155,7 +155,7 @@ module _ (z : Shape) (words : List ℕ) (keep : ℕ → View) (w : World) (side 
   true_decided d r i =
       let j = known_decided d r i in
       let holds = rule.rows.facts who (decided d j.0) j.2 refl in
-      (subst IsDecided j.1 (told_decided j.0 holds.0), ap without_entry holds.1 ∙ j.1)
+      (subst IsDecided j.1 (read_as_decided j.0 holds.0), ap without_entry holds.1 ∙ j.1)
 
   pub opened_known : (d : Ref) → IsKnown k.side.facts d → IsOpened (w.control d)
   opened_known d o = ⊎_elim
@@ -343,9 +343,9 @@ module _ (z : Shape) (words : List ℕ) (keep : ℕ → View) (w : World) (side 
         (λ (e : record { worker = who; number = n } ≡ d).
         let own : d.worker ≡ k.worker = ap (λ (y : Ref). y.worker) (sym e) ∙ sym h.worker in
         let newest : suc d.number ≡ k.next_number = ap (λ (y : Ref). suc y.number) (sym e) ∙ next in
-        let told : r ≡ now = ⊎_elim (λ q. q.1) (λ j. before r (subst (λ (y : Ref). In (decided y r) k.side.facts) e j)) (facts record { worker = who; number = n } r i) in
+        let reads_as : r ≡ now = ⊎_elim (λ q. q.1) (λ j. before r (subst (λ (y : Ref). In (decided y r) k.side.facts) e j)) (facts record { worker = who; number = n } r i) in
         ap (λ (b : Bool). cond b seen k.control) (and_true (eq-eqb d.worker k.worker own) (eq-eqb (suc d.number) k.next_number newest))
-        ∙ seen_is (newest ∙ h.next_number ∙ ap w.next_number (ap (λ (y : Ref). y.worker) e)) ∙ ap (λ (c : Control). control_word_of d.number c) (sym told) ∙ ap (λ (y : Ref). control_word_of y.number r) (sym e))
+        ∙ seen_is (newest ∙ h.next_number ∙ ap w.next_number (ap (λ (y : Ref). y.worker) e)) ∙ ap (λ (c : Control). control_word_of d.number c) (sym reads_as) ∙ ap (λ (y : Ref). control_word_of y.number r) (sym e))
         (λ (ne : record { worker = who; number = n } ≢ d).
         ap (λ (b : Bool). cond b seen k.control) (other_newest n next ne)
         ∙ h.control n r next (⊎_elim (λ q. absurd (ne q.0)) (λ j. j) (facts record { worker = who; number = n } r i)))
@@ -367,7 +367,7 @@ module _ (z : Shape) (words : List ℕ) (keep : ℕ → View) (w : World) (side 
       → ((e : Ref) (r : Control) → In (decided e r) x.facts → ((e ≡ d) × (r ≡ without_entry (w.control d))) ⊎ In (decided e r) k.side.facts)
       → Grows k.side x → (seen : ℕ) → seen ≡ word_at z words (part.Control d.worker) → Meets z words w who k x (control_seen k d seen)
   meets_control d u is x facts g seen seen_is = meets_seen words w refl d (without_entry (w.control d)) x facts (λ r j. sym (true_decided d r j).1) g seen
-      (λ next. seen_is ∙ (m.controls.newest d u next).1 ∙ sym (told_number d.number (w.control d)))
+      (λ next. seen_is ∙ (m.controls.newest d u next).1 ∙ sym (read_as_number d.number (w.control d)))
       (λ f e q. g.facts (decided f (failed 0 who)) (h.failures f e q))
 
   -- where it has another number, d is stale, and the own one is as it was last seen
@@ -425,12 +425,12 @@ module _ (z : Shape) (words : List ℕ) (keep : ℕ → View) (w : World) (side 
           }))
       either true e c q =
           let serial : serial_in (word_at z words (part.Control d.worker)) ≡ d.number = ap serial_in (sym is) ∙ eqb_yes (serial_in word) d.number e in
-          let told : read_control word ≡ without_entry (w.control (ref_of d)) = ap read_control is ∙ reads_desc_control (ref_of d) here.0 serial in
+          let reads_as : read_control word ≡ without_entry (w.control (ref_of d)) = ap read_control is ∙ reads_desc_control (ref_of d) here.0 serial in
           side_keeps (side_after w t who (reads_control (ref_of d))) (control_noted k.side (ref_of d) (read_control word)) (control_seen k (ref_of d) word) k.raw_rows k.raw
           (each_step_keeps w side who (reads_control (ref_of d)) rule tt)
-          ((λ i. control_noted (h.side_is i) (ref_of d) (told i)) ∙ erased_control t (ref_of d) (w.control (ref_of d)))
+          ((λ i. control_noted (h.side_is i) (ref_of d) (reads_as i)) ∙ erased_control t (ref_of d) (w.control (ref_of d)))
           (meets_control (ref_of d) here.0 serial (control_noted k.side (ref_of d) (read_control word))
-          (λ f r i. ⊎_elim (λ j. inl (j.0, j.1 ∙ told)) inr (in_control k.side (ref_of d) (read_control word) f r i))
+          (λ f r i. ⊎_elim (λ j. inl (j.0, j.1 ∙ reads_as)) inr (in_control k.side (ref_of d) (read_control word) f r i))
           (grows_control k.side (ref_of d) (read_control word)) word is)
           h.raw_rows h.raw
       either false e true q =
@@ -458,15 +458,15 @@ module _ (z : Shape) (words : List ℕ) (keep : ℕ → View) (w : World) (side 
       either true e =
           let serial : serial_in (word_at z words (part.Control d.worker)) ≡ d.number = ap serial_in (sym is) ∙ eqb_yes (serial_in word) d.number e in
           let f : Ref = w.mark_desc (ref_of x) in
-          let told : read_control word ≡ without_entry (w.control (ref_of d)) = ap read_control is ∙ reads_desc_control (ref_of d) here.0 serial in
-          let of_f : read_control word ≡ without_entry (w.control f) = told ∙ ap (λ (y : Ref). without_entry (w.control y)) same in
+          let reads_as : read_control word ≡ without_entry (w.control (ref_of d)) = ap read_control is ∙ reads_desc_control (ref_of d) here.0 serial in
+          let of_f : read_control word ≡ without_entry (w.control f) = reads_as ∙ ap (λ (y : Ref). without_entry (w.control y)) same in
           let next : Side = mark_noted (control_noted k.side (ref_of d) (read_control word)) (ref_of x) c (read_control word) in
           side_keeps (side_after w t who (reads_mark_control (ref_of x) c)) next (control_seen k (ref_of d) word) k.raw_rows k.raw
           (each_step_keeps w side who (reads_mark_control (ref_of x) c) rule (known_note (found (ref_of x) c) tt may.0))
           ((λ i. mark_noted (control_noted (h.side_is i) (same i) (of_f i)) (ref_of x) c (of_f i))
           ∙ ap (λ (s : Side). mark_noted s (ref_of x) c (without_entry (w.control f))) (erased_control t f (w.control f)) ∙ erased_mark (control_noted t f (w.control f)) (ref_of x) c (w.control f))
           (meets_control (ref_of d) here.0 serial next
-          (λ g r i. ⊎_elim (λ j. inl (j.0, j.1 ∙ told)) inr (in_control k.side (ref_of d) (read_control word) g r (in_mark (control_noted k.side (ref_of d) (read_control word)) (ref_of x) c (read_control word) g r i)))
+          (λ g r i. ⊎_elim (λ j. inl (j.0, j.1 ∙ reads_as)) inr (in_control k.side (ref_of d) (read_control word) g r (in_mark (control_noted k.side (ref_of d) (read_control word)) (ref_of x) c (read_control word) g r i)))
           (grows_then k.side (control_noted k.side (ref_of d) (read_control word)) next (grows_control k.side (ref_of d) (read_control word)) (grows_mark (control_noted k.side (ref_of d) (read_control word)) (ref_of x) c (read_control word))) word is)
           h.raw_rows h.raw
       either false e =
@@ -510,7 +510,7 @@ module _ (z : Shape) (words : List ℕ) (keep : ℕ → View) (w : World) (side 
       let used = (true_note (found (ref_of x) may.0) tt refl may.1).0 in
       keep_raw record { mark = ref_of x; word = entry_word word } record { used = used; said = λ s. is ∙ (m.rows.marks (ref_of x) used s).entry }
   keeps_read (reading.Reason d by) here may word is =
-      let told = true_decided (ref_of d) (failed 0 by) may.1 in
-      let f = told_failed (w.control (ref_of d)) 0 by told.1 in
+      let reads_as = true_decided (ref_of d) (failed 0 by) may.1 in
+      let f = read_as_failed (w.control (ref_of d)) 0 by reads_as.1 in
       let newest : suc d.number ≡ w.next_number d.worker = may.0.1 ∙ h.next_number ∙ ap w.next_number (sym (may.0.0 ∙ h.worker)) in
       learn (failed_at (ref_of d) word) (tt, (by, f.1 ∙ ap (λ (e : ℕ). failed e by) (sym (m.controls.reasons (ref_of d) f.0 by f.1 newest) ∙ sym is)))

@@ -20,7 +20,7 @@ use Rattle.rh_words.specs.Words.{cell_in, desc_in, read_control, ref_of, serial_
 use Rattle.rh_words.specs.Steps.{IsDesc, IsKnown, IsNoted, IsRead, IsStep, Step, index, index_read, row_of, row_word}
 use Rattle.rh_rule.specs.Represents.{DescRow, HasItsRow, IsCell, IsOpenedSo, IsOwn, Kept, Represents, numbers_of, word_at}
 use Rattle.rh_rule.specs.Sound.{ControlTells, Finds, IsControlWord, OwnRow, Reads, Sound, StepsFind, ViewsAreSound}
-use Rattle.rh_rule.proofs.Deciders.{told_failed, told_undecided, told_unused, told_withdrawn}
+use Rattle.rh_rule.proofs.Deciders.{read_as_failed, read_as_undecided, read_as_unused, read_as_withdrawn}
 use Rattle.rh_rule.proofs.Erasing.{of_erased}
 use Rattle.rh_rule.proofs.OpensKept.{word_is}
 use Rattle.rh_rule.proofs.ReadsKept.{control_word, mark_known, newest_word, opened_known, reads_desc_control, true_decided, true_note, work_known}
@@ -109,14 +109,14 @@ module _ (z : Shape) (words : List ℕ) (keep : ℕ → View) (w : World) (side 
         subst (λ (y : Ref). IsDesc z y) q.1 (m.controls.descs (w.mark_desc x) (rule.rows.used x q.0).0);
     results = λ d k i. (true_decided z words keep w side rule m who mine d k i).0;
     deciders = λ d by i.
-        let f = told_failed (w.control d) 0 by (true_decided z words keep w side rule m who mine d (failed 0 by) i).1 in
+        let f = read_as_failed (w.control d) 0 by (true_decided z words keep w side rule m who mine d (failed 0 by) i).1 in
         m.controls.deciders d f.0 by f.1;
     failures = λ d e n i j.
         let fails = true_note z words keep w side rule m who mine (failed_at d e) tt refl i in
         let size = true_note z words keep w side rule m who mine (size_is d n) tt refl j in
         subst (λ (n : ℕ). e < n) size.1 (rule.prefixes.failed d e fails).mismatch.within;
     withdrawals = λ d own i.
-        let is : w.control d ≡ withdrawn = told_withdrawn (w.control d) (true_decided z words keep w side rule m who mine d withdrawn i).1 in
+        let is : w.control d ≡ withdrawn = read_as_withdrawn (w.control d) (true_decided z words keep w side rule m who mine d withdrawn i).1 in
         let full : z.rooms.marks ≤ w.marks_used d.worker = m.controls.withdrawals d is in
         subst (λ (n : ℕ). z.rooms.marks ≤ n) (ap w.marks_used (own ∙ h.worker) ∙ sym h.marks_used) full;
     rows = row;
@@ -149,15 +149,15 @@ module _ (z : Shape) (words : List ℕ) (keep : ℕ → View) (w : World) (side 
   control_finds d here o = record {
     word_is = control_is d.worker here.0;
     tells = λ serial.
-        let told : read_control (word_at z words (part.Control d.worker)) ≡ without_entry (w.control d) = reads_desc_control z words keep w side rule m who mine d here.0 serial in
+        let reads_as : read_control (word_at z words (part.Control d.worker)) ≡ without_entry (w.control d) = reads_desc_control z words keep w side rule m who mine d here.0 serial in
         let next : suc d.number ≡ w.next_number d.worker = control_word z words keep w side rule m who mine d here.0 serial o in
         record {
-          opened = λ e. o (told_unused (w.control d) (sym told ∙ e));
+          opened = λ e. o (read_as_unused (w.control d) (sym reads_as ∙ e));
           noted = λ e q.
-              let f = told_failed (w.control d) e v.worker (sym told ∙ q) in
+              let f = read_as_failed (w.control d) e v.worker (sym reads_as ∙ q) in
               subst (λ (u : ℕ). In (decided d (failed 0 u)) v.side.facts) (sym h.worker) (h.failures d f.0 (f.1 ∙ ap (λ (u : ℕ). failed f.0 u) h.worker));
           older = λ q f same i.
-              let open_still : w.control d ≡ undecided = told_undecided (w.control d) (sym told ∙ q) in
+              let open_still : w.control d ≡ undecided = read_as_undecided (w.control d) (sym reads_as ∙ q) in
               let of_f = true_decided z words keep w side rule m who mine f (failed 0 v.worker) i in
               let below : f.number < w.next_number f.worker = rule.rows.below f (opened_known z words keep w side rule m who mine f (inl (inr (failed 0 v.worker, i)))) in
               less d f same (below, next) (λ e. subst IsDecided (sym of_f.1 ∙ ap (λ (y : Ref). without_entry (w.control y)) e ∙ ap without_entry open_still) of_f.0);

@@ -18,8 +18,8 @@ use Rattle.rh_words.specs.View.{OwnDesc, View}
 use Rattle.rh_words.specs.Words.{without_entry}
 use Rattle.rh_rule.specs.Represents.{IsCell, IsOpenedSo, cell_number, numbers_of}
 use Rattle.rh_rule.specs.Core.{Core}
-use Rattle.rh_rule.specs.Rest.{HasMissed, TableRests, TableTells, Told, is_noted_success, says_success}
-use Rattle.rh_rule.proofs.Deciders.{told_success}
+use Rattle.rh_rule.specs.Rest.{HasMissed, TableRests, TableTells, WorldTells, is_noted_success, says_success}
+use Rattle.rh_rule.proofs.Deciders.{read_as_success}
 use Rattle.rh_rule.proofs.Erasing.{in_decided, in_whole}
 use Rattle.rh_rule.proofs.WipesKept.{all_rest}
 
@@ -39,8 +39,8 @@ missed_so w side says v o e so fails =
       read_after = λ k i lt. says.failed_then_read d e k fails i lt;
     }
 
-told : (w : World) (z : Shape) (words : List ℕ) (keep : ℕ → View) (core : Core w z words keep) → Told w z keep core.side
-told w z words keep core =
+world_tells : (w : World) (z : Shape) (words : List ℕ) (keep : ℕ → View) (core : Core w z words keep) → WorldTells w z keep core.side
+world_tells w z words keep core =
     let m = core.represents in
     let order = one_order w core.side core.rule in
     let failed : (v : ℕ) (d : Ref) (e : ℕ) → v < z.workers → In (failed_at d e) (keep v).side.facts → HasFailed w d e = λ v d e lt i.
@@ -62,7 +62,7 @@ told w z words keep core =
     }
 
 pub tells : TableTells
-tells w z words keep core = told w z words keep core
+tells w z words keep core = world_tells w z words keep core
 
 -- ---- the acts that were noted
 
@@ -130,9 +130,9 @@ pub rests : TableRests
 rests w z words keep core rest =
     let m = core.represents in
     let settled = rest_is_settled w core.side core.rule (all_rest w z words keep core rest) in
-    let t = told w z words keep core in
+    let t = world_tells w z words keep core in
     record {
-      told = t;
+      tells = t;
       cells = λ c lt. m.cells.cells c lt ∙ ap cell_number (settled.cells c);
       plain = λ c lt. ap (λ (u : ℕ). tag_of u) (m.cells.cells c lt ∙ ap cell_number (settled.cells c)) ∙ subst (λ (k : Cell). IsCell z k) (settled.cells c) (m.cells.standing c lt);
       acts = λ v lt.
@@ -140,7 +140,7 @@ rests w z words keep core rest =
           t.own v lt ∙ filtered (λ n. is_success (w.control (record { worker = v; number = n }))) (λ o. is_noted_success (keep v).side.facts (record { worker = (keep v).worker; number = o.number })) (keep v).opened
           (λ o i.
           let d : Ref = record { worker = v; number = o.number } in
-          sym (told_success (w.control d)) ∙ success_noted (keep v).side.facts d (without_entry (w.control d)) (λ k j. t.results v d k lt j)
+          sym (read_as_success (w.control d)) ∙ success_noted (keep v).side.facts d (without_entry (w.control d)) (λ k j. t.results v d k lt j)
           (⊎_elim (λ q. let bad : None ≡ Some o.number = sym (rest.rest v lt).closed ∙ q in cc) (λ q. q) (h.over o i))
           ∙ ap (is_noted_success (keep v).side.facts) (λ j. record { worker = sym h.worker j; number = o.number }));
     }

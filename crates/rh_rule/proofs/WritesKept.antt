@@ -171,9 +171,9 @@ module _ (z : Shape) (words : List ℕ) (keep : ℕ → View) (w : World) (side 
     reason_kept d e by f newest q =
         let may : IsFree z own (part.Reason by d.worker) u = subst (λ (x : Part). IsFree z own x u) (sym q) free in
         let mine_by : by ≡ who = may.0 ∙ old.worker in
-        let told : In (decided d (failed 0 own.worker)) own.side.facts = subst (λ (v : ℕ). In (decided d (failed 0 v)) own.side.facts) (sym old.worker)
+        let reads_as : In (decided d (failed 0 own.worker)) own.side.facts = subst (λ (v : ℕ). In (decided d (failed 0 v)) own.side.facts) (sym old.worker)
         (old.failures d e (f ∙ ap (λ (v : ℕ). failed e v) mine_by)) in
-        let older : d.number < may.2.desc.number = may.2.older d refl told in
+        let older : d.number < may.2.desc.number = may.2.older d refl reads_as in
         let found = in_mismatch may.2.desc may.2.entry may.2.mismatch.0 (side who) (subst (λ (s : Side). In (mismatch may.2.desc may.2.entry may.2.mismatch.0) s.facts) old.side_is may.2.mismatch.1) in
         let opened = (rule.prefixes.facts who (mismatch may.2.desc may.2.entry found.0) found.1 refl).0 in
         let below : may.2.desc.number < w.next_number d.worker = subst (λ (v : ℕ). may.2.desc.number < w.next_number v) may.2.of_owner (rule.rows.below may.2.desc opened) in

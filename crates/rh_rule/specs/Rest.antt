@@ -28,7 +28,7 @@ pub record HasMissed (w : World) (side : ℕ → Side) (v : ℕ) (o : OwnDesc) (
 -- The acts of the world stand in one order, and it tells of what is kept: the reads that are kept and the descriptors that
 -- failed have their prefixes, and the numbers that Claims found are shared out. What is kept of a worker is true of it: its
 -- opening cells, its opened descriptors, how they were decided, and at which entry they failed.
-pub record Told (w : World) (z : Shape) (keep : ℕ → View) (side : ℕ → Side) : Type 0 where
+pub record WorldTells (w : World) (z : Shape) (keep : ℕ → View) (side : ℕ → Side) : Type 0 where
   pub order : OneOrder w
   pub foretold : Foretold w side
   pub shared : SharedOut w side
@@ -51,12 +51,12 @@ pub record RuleTells (z : Shape) (v : View) : Type 0 where
   pub w : World
   pub keep : ℕ → View
   pub side : ℕ → Side
-  pub told : Told w z keep side
+  pub tells : WorldTells w z keep side
   pub within : v.worker < z.workers
   pub is : keep v.worker ≡ v
 
 abbrev pub TableTells : Type 0
-TableTells = (w : World) (z : Shape) (words : List ℕ) (keep : ℕ → View) → (core : Core w z words keep) → Told w z keep core.side
+TableTells = (w : World) (z : Shape) (words : List ℕ) (keep : ℕ → View) → (core : Core w z words keep) → WorldTells w z keep core.side
 
 -- all workers of the table are at rest, and no wipe is under way
 pub record AllRest (z : Shape) (keep : ℕ → View) : Type 0 where
@@ -78,7 +78,7 @@ made k = filter (λ o. is_noted_success k.side.facts (record { worker = k.worker
 
 -- where all are at rest, these are the cells
 pub record Rested (w : World) (z : Shape) (words : List ℕ) (keep : ℕ → View) (side : ℕ → Side) : Type 0 where
-  pub told : Told w z keep side
+  pub tells : WorldTells w z keep side
   pub cells : (c : ℕ) → c < cell_count z → slice_index words c ≡ cells_after w w.act_count c
   pub plain : (c : ℕ) → c < cell_count z → IsPlain (slice_index words c)
   pub acts : (v : ℕ) → v < z.workers → own_acts w v w.act_count ≡ numbers_of (made (keep v))

@@ -87,7 +87,7 @@ pub record StepTells (z : Shape) (v : View) (l : List Touch) (s : Step) (word : 
   pub view : me ≡ (sitter (noted z v s word) (touched z v s word ∷ l) ∷ [], [])
   pub finds : Finds z v s word
   pub sound : Sound z (noted z v s word)
-  pub told : RuleTells z (noted z v s word)
+  pub rule_tells : RuleTells z (noted z v s word)
 
 -- The seat of one worker may make each step that is allowed: it touches the step's word, notes what it found, and learns
 -- what it may rely on, and what the rule tells of all workers then.
@@ -115,7 +115,7 @@ ViewsJoin = (z : Shape) (id : ℕ) (vs : List Sitter) (other : ℕ) (us : List S
 -- Where all workers of a seat's view are at rest: the words of the table, which is ruled, and its cells, as words. These are
 -- those that it was made or wiped with, changed by all acts since, act by act. The steps that the workers noted since are all
 -- that happened.
--- (The rule itself is told, and not only what follows from it for the cells: the laws of runs begin from it.)
+-- (The rule itself is said, and not only what follows from it for the cells: the laws of runs begin from it.)
 pub record AreMade (z : Shape) (vs : List Sitter) : Type 0 where
   pub cells : List ℕ
   pub long : length cells ≡ cell_count z

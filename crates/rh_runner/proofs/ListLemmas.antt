@@ -65,8 +65,8 @@ none_came now left = record { ahead = ahead_none now; long = omega arith; in_ran
 -- ---- a phase over a list, batch by batch
 
 module _ {kind : Kind} {bits : ℕ} {done old mid : List ℕ} {t : Tally} (ran : Ran kind bits done old mid t) where
-  pub more_ran : {batch new : List ℕ} {told : Tally} → Ran kind bits batch mid new told → Ran kind bits (done ++ batch) old new (sum_of t told)
-  more_ran {batch} {new} {told} next = record {
+  pub more_ran : {batch new : List ℕ} {made : Tally} → Ran kind bits batch mid new made → Ran kind bits (done ++ batch) old new (sum_of t made)
+  more_ran {batch} {new} {made} next = record {
     layout = next.layout;
     held = next.held ∙ ap (λ (S : Keys). set_after kind S batch) ran.held ∙ sym (set_after-append kind (keys_of old) done batch);
     tally =

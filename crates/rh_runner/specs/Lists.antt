@@ -30,10 +30,10 @@ may_add Remove left = 0
 may_add Ask left = 0
 
 -- A phase over these keys made the new cells of the old ones, and this is its tally.
-pub record Ran (kind : Kind) (bits : ℕ) (keys old new : List ℕ) (told : Tally) : Type 0 where
+pub record Ran (kind : Kind) (bits : ℕ) (keys old new : List ℕ) (made : Tally) : Type 0 where
   pub layout : IsLayout bits new
   pub held : keys_of new ≡ set_after kind (keys_of old) keys
-  pub tally : told ≡ tally_of kind (keys_of old) keys
+  pub tally : made ≡ tally_of kind (keys_of old) keys
 
 -- whether a key is chosen that is held, or is not
 abbrev pub is_chosen : Chosen → (held : Bool) → Bool
@@ -50,14 +50,14 @@ TellsKeyFault before after (faults.Keys e) = after ≡ Some e
 TellsKeyFault before after (faults.Phase e) = after ≡ before
 
 -- Why a list was not gone through: a fault of its keys was to come, or its phase failed.
-abbrev pub Refused : Coming → (starts starts' : ℕ) → ListFault → Type 0
-Refused coming n m (faults.Keys e) = FaultComes coming e
-Refused coming n m (faults.Phase e) = RefusedPhase n m e
+abbrev pub IsWhyRefused : Coming → (starts starts' : ℕ) → ListFault → Type 0
+IsWhyRefused coming n m (faults.Keys e) = FaultComes coming e
+IsWhyRefused coming n m (faults.Phase e) = RefusedPhase n m e
 
 -- How the phases over a list end: where it was not gone through, this is why; a fault of the keys is the one that their source told;
 -- and no refused start of a thread is counted but one that is told.
 pub record EndsList {X : Type 0} (coming : Coming) (before after : Option KeyFault) (starts starts' : ℕ) (r : Result X ListFault) : Type 0 where
-  pub refused : IfErr r (Refused coming starts starts')
+  pub refused : IfErr r (IsWhyRefused coming starts starts')
   pub told : IfErr r (TellsKeyFault before after)
   pub fine : OnOk r (starts' ≡ starts)
   pub others : IfErr r (λ fault. fault ≢ faults.Phase NoThread → starts' ≡ starts)

@@ -45,7 +45,7 @@ pub fn read_through<K: KeySource>(keys: &mut K) -> Result<(), KeyFault>
     ensures took { OnOk result ((list : List ℕ)
         × Took (K.coming keys.old) (K.left_of keys.old) list) }
     ensures refused { IfErr result (FaultComes (K.coming keys.old)) }
-    ensures told { IfErr result (λ e. K.told_by keys.new ≡ Some e) }
+    ensures told { IfErr result (λ e. K.failed_with keys.new ≡ Some e) }
 {
     let mut batch = [0; BATCH];
     while keys.next_keys(&mut batch)? > 0 {}
@@ -58,8 +58,8 @@ pub fn take_all<K: KeySource>(keys: &mut K, list: &mut [u64]) -> Result<(), KeyF
     ensures took { OnOk result (Took (K.coming keys.old) (K.left_of keys.old) list.new) }
     ensures long { length list.new ≡ length list.old }
     ensures refused { IfErr result (FaultComes (K.coming keys.old)) }
-    ensures told { IfErr result (λ e. K.told_by keys.new ≡ Some e) }
-    ensures fine { OnOk result (K.told_by keys.new ≡ K.told_by keys.old) }
+    ensures told { IfErr result (λ e. K.failed_with keys.new ≡ Some e) }
+    ensures fine { OnOk result (K.failed_with keys.new ≡ K.failed_with keys.old) }
 {
     let mut taken = 0;
     while taken < list.len() {
@@ -86,11 +86,11 @@ pub fn change_all<T: Threads + Wait + Sync, N: Runner, K: KeySource>(
     ensures done { IfOk result (λ t. (list : List ℕ)
         × Took (K.coming keys.old) (K.left_of keys.old) list
         × Ran kind scratch.old.bits list scratch.old.cells.items scratch.new.cells.items t) }
-    ensures ends { EndsList (K.coming keys.old) (K.told_by keys.old) (K.told_by keys.new)
+    ensures ends { EndsList (K.coming keys.old) (K.failed_with keys.old) (K.failed_with keys.new)
         (N.refused_starts runner.old) (N.refused_starts runner.new) result }
 {
     // No count of the tally is greater.
-    let most = keys.left();
+    let most = keys.keys_left();
     let mut room = phase_room(host.alloc, most, runner.phase_keys(kind))?;
     let batch = room.as_mut_slice();
     let Scratch { bits, cells } = scratch;
@@ -100,8 +100,8 @@ pub fn change_all<T: Threads + Wait + Sync, N: Runner, K: KeySource>(
         if n == 0 {
             return Ok(tally);
         }
-        let told = runner.change(host.rt, host.alloc, kind, *bits, cells, &batch[..n])?;
-        tally = joined(tally, told).unwrap();
+        let more = runner.change(host.rt, host.alloc, kind, *bits, cells, &batch[..n])?;
+        tally = joined(tally, more).unwrap();
     }
 }
 
@@ -118,10 +118,10 @@ pub fn ask_all<T: Threads + Wait + Sync, N: Runner, K: KeySource>(
     ensures found { IfOk result (λ found. (list : List ℕ)
         × Took (K.coming keys.old) (K.left_of keys.old) list
         × (found.items ≡ looked_up (keys_of cells.now) list)) }
-    ensures ends { EndsList (K.coming keys.old) (K.told_by keys.old) (K.told_by keys.new)
+    ensures ends { EndsList (K.coming keys.old) (K.failed_with keys.old) (K.failed_with keys.new)
         (N.refused_starts runner.old) (N.refused_starts runner.new) result }
 {
-    let many = keys.left();
+    let many = keys.keys_left();
     let mut found = Vec::with_capacity(host.alloc, many as usize)?;
     let mut room = phase_room(host.alloc, many, runner.phase_keys(Kind::Ask))?;
     let batch = room.as_mut_slice();

@@ -15,7 +15,7 @@ use Rattle.rh_operations.specs.declared.key_lists.KeyList.{KeyList}
 use Rattle.rh_script_run.specs.Files.{FileMap, HasFiles}
 use Rattle.rh_operations.specs.KeyLists.{Stands}
 use Rattle.rh_script_run.specs.Meaning.{ScriptState, CommandOutcome, list_of, outcome_of}
-use Rattle.rh_script_run.specs.Ends.{IsMet, LeavesFiles, LeavesOthers, Step, TellsFront, step_in}
+use Rattle.rh_script_run.specs.Ends.{IsMet, LeavesFiles, LeavesOthers, CommandRun, TellsFront, step_in}
 use Rattle.rh_script_run.specs.Environment.{Environment}
 use Rattle.rh_script_run.specs.Steps.{ActsOn, ListsStand, HasMade, MakesOrRefuses, MakesLists, MakesState, Named, StateEnds, names_of, world_of}
 use Rattle.rh_script_run.specs.declared.told.Told.{Told}
@@ -59,12 +59,12 @@ module _ (said : Instruction) (plain : IsPlain said) (outcome : CommandOutcome) 
 
 -- ---- the report of a command
 
-left_by : (step : Step) (found : FileMap) (cause : Cause) → (cause ≡ causes.Write → ⊥) → LeavesOthers step.said found step.after.files → LeavesFiles step found cause
+left_by : (step : CommandRun) (found : FileMap) (cause : Cause) → (cause ≡ causes.Write → ⊥) → LeavesOthers step.said found step.after.files → LeavesFiles step found cause
 left_by step found causes.Write other left = absurd (other refl)
 left_by step found _ other left = left
 
 module _ (w : ScriptState) (said : Instruction) (before after : Environment) (found : FileMap) (set : Held) (lists : List KeyList) (r : Result (Unit {0}) Cause) where
-  abbrev step : Step
+  abbrev step : CommandRun
   step = step_in w said before after
 
   -- it was refused, and told nothing

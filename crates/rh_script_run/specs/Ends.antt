@@ -63,22 +63,22 @@ abbrev pub TellsFront : Account → Option (List ℕ) → Option (List ℕ) → 
 TellsFront account old new = (text : List ℕ) × Says account text × AppendsFront old new text
 
 -- a command that is carried out: what is said, what that means, and what was outside before and after it
-pub record Step : Type 0 where
+pub record CommandRun : Type 0 where
   pub said : Instruction
   pub outcome : CommandOutcome
   pub before : Environment
   pub after : Environment
 
 -- a command of a script, in the world that it finds
-abbrev pub step_in : ScriptState → Instruction → (before after : Environment) → Step
+abbrev pub step_in : ScriptState → Instruction → (before after : Environment) → CommandRun
 step_in world said before after = record { said = said; outcome = outcome_of world said; before = before; after = after }
 
 -- the cause comes from outside, by what failed meanwhile
-abbrev pub IsMet : Step → Cause → Type 0
+abbrev pub IsMet : CommandRun → Cause → Type 0
 IsMet step cause = IsOutside step.said (outside_in step.before) (outside_in step.after) cause
 
 -- A command was refused and told nothing; or its account could not be written whole.
-abbrev pub EndsBy : Step → Cause → Type 0
+abbrev pub EndsBy : CommandRun → Cause → Type 0
 EndsBy step cause =
     (Appends step.before.text step.after.text [] × RefusedBy step.outcome (IsMet step) cause)
     ⊎ ((cause ≡ Write) × (done : ScriptState × Account) × (step.outcome ≡ Ok done) × TellsFront done.1 step.before.text step.after.text)
@@ -90,7 +90,7 @@ LeavesOthers (Snapshot path) files now = HasOthers path files now
 LeavesOthers _ files now = HasFiles files now
 
 -- And where its account could not be written, those that it made.
-abbrev pub LeavesFiles : Step → (found : FileMap) → Cause → Type 0
+abbrev pub LeavesFiles : CommandRun → (found : FileMap) → Cause → Type 0
 LeavesFiles step found Write = (done : ScriptState × Account) × (step.outcome ≡ Ok done) × HasFiles done.0.files step.after.files
 LeavesFiles step found _ = LeavesOthers step.said found step.after.files
 

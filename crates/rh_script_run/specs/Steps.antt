@@ -8,7 +8,7 @@ use Rattle.rh_script.specs.Plan.{number_after}
 use Rattle.rh_script.specs.Steps.{instruction_as}
 use Rattle.rh_script.specs.declared.script.Command.{Command}
 use Rattle.rh_script.specs.declared.script.Command.TheVariants as commands
-use Rattle.rh_script.specs.declared.script.Step.{Step as ScriptStep}
+use Rattle.rh_script.specs.declared.script.Step.{Step}
 use Rattle.rh_report.specs.Account.{Account}
 use Rattle.rh_operations.specs.declared.cause.Cause.{Cause}
 use Rattle.rh_operations.specs.declared.key_lists.KeyList.{KeyList}
@@ -16,7 +16,7 @@ use Rattle.rh_operations.specs.KeyLists.{Stands, paths_of}
 use Rattle.rh_operations.specs.Outside.{Outside}
 use Rattle.rh_operations.specs.Refusals.{RefusedBy}
 use Rattle.rh_script_run.specs.declared.told.Told.{Told}
-use Rattle.rh_script_run.specs.Ends.{EndsBy, LeavesFiles, LeavesOthers, Step, TellsAccount}
+use Rattle.rh_script_run.specs.Ends.{EndsBy, LeavesFiles, LeavesOthers, CommandRun, TellsAccount}
 use Rattle.rh_script_run.specs.Files.{FileMap, HasFiles}
 use Rattle.rh_script_run.specs.Meaning.{ScriptState, CommandOutcome, outcome_of}
 use Rattle.rh_script_run.specs.Outside.{IsOutside}
@@ -63,13 +63,13 @@ MakesState said outcome outside found now set lists r =
     MatchResult r (λ told. HasMade outcome now set lists (told_as set told)) (λ cause. RefusedBy outcome outside cause × LeavesOthers said found now)
 
 -- A step made this, and told its account.
-pub record StepDone (step : Step) (set : Held) (lists : List KeyList) : Type 0 where
+pub record StepDone (step : CommandRun) (set : Held) (lists : List KeyList) : Type 0 where
   pub account : Account
   pub made : HasMade step.outcome step.after.files set lists account
   pub told : TellsAccount account step.before.text step.after.text
 
 -- Any step ends so; or it was refused, or could not be told, and this is what it left of the files.
-abbrev pub StateEnds : Step → (found : FileMap) → Held → List KeyList → Result (Unit {0}) Cause → Type 0
+abbrev pub StateEnds : CommandRun → (found : FileMap) → Held → List KeyList → Result (Unit {0}) Cause → Type 0
 StateEnds step found set lists r =
     MatchResult r (λ _. StepDone step set lists) (λ cause. EndsBy step cause × LeavesFiles step found cause)
 
@@ -79,12 +79,12 @@ ActsOn (commands.Act action name) None many = ⊥
 ActsOn (commands.Act action name) (Some list) many = list < many
 ActsOn _ list many = Unit {0}
 
-abbrev pub HasList : ScriptStep → ℕ → Type 0
+abbrev pub HasList : Step → ℕ → Type 0
 HasList step many = ActsOn step.command step.list many
 
 -- A step comes where these named lists and these files were made, as the code has them now. It has the number of its list,
 -- and puts no snapshot under a path at which a list stands.
-pub record ComesAfter (step : ScriptStep) (named : Named) (files : FileMap) (lists : List KeyList) (now : Option Files) : Type 0 where
+pub record ComesAfter (step : Step) (named : Named) (files : FileMap) (lists : List KeyList) (now : Option Files) : Type 0 where
   pub has : HasFiles files now
   pub stand : ListsStand now lists named
   pub number : number_after (names_of named) (instruction_as step.command) ≡ step.list

@@ -55,7 +55,7 @@ fn change(
     list: &mut impl KeySource,
 ) -> Result<Changed, Fail> {
     let set = table_of(rt, held)?;
-    assert!(rt; set.bits() == BITS && set.len() < 10 && list.left() <= 200_000);
+    assert!(rt; set.bits() == BITS && set.len() < 10 && list.keys_left() <= 200_000);
     assert!(rt; kind != Kind::Ask);
     let cells = set.into_cells();
     let mut scratch = Scratch { bits: BITS, cells };
@@ -121,7 +121,7 @@ fn a_list_is_taken_whole(rt: HostRuntime) -> Result<(), Fail> {
     let many = many_keys(rt.alloc())?;
     for keys in [many.as_slice(), &[9, 3, 3, 17], &[]] {
         let mut list = list_of(&rt, keys);
-        let mut taken = vec![in rt.alloc(); 0; list.left() as usize]?;
+        let mut taken = vec![in rt.alloc(); 0; list.keys_left() as usize]?;
         assert_eq!(rt; take_all(&mut list, &mut taken), Ok(()));
         assert!(rt; taken.as_slice() == keys);
     }

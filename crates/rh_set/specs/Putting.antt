@@ -4,7 +4,7 @@ use Rattle.rh_set.specs.declared.fault.PutFault.{PutFault}
 use Rattle.rh_set.specs.declared.fault.PutFault.TheVariants.{NoRoom, Memory}
 
 -- so many items stand at the front, and behind them what stood there
-pub record IsFront {T : Type 0} (items old new : List T) (count : ℕ) : Type 0 where
+pub record IsPutInFront {T : Type 0} (items old new : List T) (count : ℕ) : Type 0 where
   pub count_is : count ≡ length items
   pub front : take count new ≡ items
   pub rest : drop count new ≡ drop count old

@@ -6,7 +6,7 @@ use Rattle.rh_snapshot.specs.declared.version.Version.TheVariants.{Second}
 use Rattle.rh_snapshot.specs.Snapshot.{SnapshotFile, keys_written}
 use Rattle.rh_set.specs.declared.fault.PutFault.{PutFault}
 use Rattle.rh_set.specs.declared.fault.PutFault.TheVariants.{NoRoom, Memory}
-use Rattle.rh_set.specs.Putting.{IsFront}
+use Rattle.rh_set.specs.Putting.{IsPutInFront}
 
 -- the bytes are a snapshot of this version, of a table of this size, and the keys of the set are written there
 pub record IsSnapshotOf (version : Version) (bytes : List ℕ) (held : Held) : Type 0 where
@@ -16,7 +16,7 @@ pub record IsSnapshotOf (version : Version) (bytes : List ℕ) (held : Held) : T
 
 -- a snapshot of the set stands at the front of a slice, and behind it what stood there
 abbrev pub IsSnapshotPut : Held → (old new : List ℕ) → (count : ℕ) → Type 0
-IsSnapshotPut held old new count = (bytes : List ℕ) × IsSnapshotOf Second bytes held × IsFront bytes old new count
+IsSnapshotPut held old new count = (bytes : List ℕ) × IsSnapshotOf Second bytes held × IsPutInFront bytes old new count
 
 -- Why no snapshot is put into a slice of this length: it has so many bytes. Of want of memory nothing is said.
 abbrev pub IsWhyNoSnapshot : Held → (room : ℕ) → PutFault → Type 0

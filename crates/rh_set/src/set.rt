@@ -7,7 +7,7 @@ ghost use Rattle.rh_layout.specs.declared.limits.TheConstants.{MIN_BITS};
 ghost use Rattle.rh_edit.specs.Rising.{rising_keys};
 ghost use Rattle.rh_grow.specs.Growth.{IsCapacity};
 ghost use Rattle.rh_set.specs.Inserting.{IsSizeWith, IsTight, IsWhyNot, one_more};
-ghost use Rattle.rh_set.specs.Putting.{IsFront, IsWhyNotPut};
+ghost use Rattle.rh_set.specs.Putting.{IsPutInFront, IsWhyNotPut};
 
 use crate::fault::{InsertFault, PutFault};
 use crate::putting::put;
@@ -114,7 +114,7 @@ impl Set {
     /// Puts the keys at the front of the slice, in rising order, and answers how many they are. It
     /// takes 8 bytes of memory for each key for a while.
     pub fn keys_into(&self, alloc: Global, into: &mut [u64]) -> Result<usize, PutFault>
-        ensures front { IfOk result (IsFront (rising_keys self.now.keys) into.old into.new) }
+        ensures front { IfOk result (IsPutInFront (rising_keys self.now.keys) into.old into.new) }
         ensures why { IfErr result (IsWhyNotPut (set.len self.now.keys) (length into.old)) }
         ensures unchanged { OnErr result (into.new ≡ into.old) }
     {

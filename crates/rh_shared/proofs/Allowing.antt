@@ -20,7 +20,7 @@ tells z v l s word me t =
       trace = trace;
       finds = t.finds;
       sound = t.sound;
-      told = t.told;
+      rule_tells = t.rule_tells;
     }
 
 allows : (z y : Shape) (slots id : ℕ) (me : Me NoSlot (List Sitter)) (v : View) (s : Step) (at : ℕ) (f : ℕ → ℕ) → y ≡ z

@@ -40,11 +40,11 @@ pub record StaysTrusted (z : Shape) (t then : OnTable) (next : View) : Type 0 wh
   pub open trusts use *
 
 -- it is the same seat, and it made just this step, which found this word, and the rule tells what was so then
-pub record Steps (z : Shape) (s : Step) (t : OnTable) (v : View) (word : ℕ) (then : OnTable) (next : View) : Type 0 where
+pub record SeatSteps (z : Shape) (s : Step) (t : OnTable) (v : View) (word : ℕ) (then : OnTable) (next : View) : Type 0 where
   pub stays : Stays t then
   pub open stays use *
   pub trace : trace_at then ≡ touched z v s word ∷ trace_at t
-  pub told : RuleTells z next
+  pub rule_tells : RuleTells z next
 
 -- what a step tells the seat
 pub record Tells (z : Shape) (v : View) (s : Step) (was : Me NoSlot (List Sitter)) (word : ℕ) (me : Me NoSlot (List Sitter)) : Type 0 where
@@ -52,7 +52,7 @@ pub record Tells (z : Shape) (v : View) (s : Step) (was : Me NoSlot (List Sitter
   pub trace : trace_in me.0 ≡ touched z v s word ∷ trace_in was.0
   pub finds : Finds z v s word
   pub sound : Sound z (noted z v s word)
-  pub told : RuleTells z (noted z v s word)
+  pub rule_tells : RuleTells z (noted z v s word)
 
 -- what a look tells it, which is no step
 pub record Looks (z : Shape) (v : View) (s : Step) (was : Me NoSlot (List Sitter)) (word : ℕ) (me : Me NoSlot (List Sitter)) : Type 0 where

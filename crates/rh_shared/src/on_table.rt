@@ -16,13 +16,13 @@ pub struct OnTable<'a> {
 }
 
 impl<'a> Steps for OnTable<'a> {
-    ghost use Rattle.rh_shared.specs.Sits.{Sits, Steps};
+    ghost use Rattle.rh_shared.specs.Sits.{Sits, SeatSteps};
 
     ghost shows = { Sits };
 
     ghost serves = { Sits };
 
-    ghost made = { λ z s t v word then next. Steps z s t v word then next };
+    ghost made = { λ z s t v word then next. SeatSteps z s t v word then next };
 
     #[inline(always)]
     fn make(&mut self, shape: &Shape, side: &mut Side, request: Request) -> u64 {

@@ -14,7 +14,7 @@ use std::marker::{Brand, PhantomData};
 
 /// Which step a call makes, and of whom this is kept before it. Each call in the program picks it,
 /// by its arguments alone: so the functions below are given the side and the step too.
-pub(crate) trait Makes {
+pub(crate) trait Call {
     ghost use Rattle.rh_words.specs.declared.shape.Shape.{Shape};
     ghost use Rattle.rh_words.specs.Steps.{Step};
     ghost use Rattle.rh_words.specs.View.{View};
@@ -26,7 +26,7 @@ pub(crate) trait Makes {
     ghost step: { Step };
 }
 
-impl Makes for Brand {
+impl Call for Brand {
     ghost use Rattle.std.specs.Prelude.{[]};
     ghost use Rattle.rh_words.specs.Steps.Step.{claims};
     ghost use Rattle.rh_words.specs.View.{new_view};
@@ -43,12 +43,12 @@ struct Making<B> {
     of: PhantomData<B>,
 }
 
-impl<B: Makes> Play<(), LinkedList<Sitter>> for Making<B> {
+impl<B: Call> Play<(), LinkedList<Sitter>> for Making<B> {
     ghost then = { λ _ was word me. Tells B.shape B.view B.step was word me };
 }
 
 #[inline(always)]
-pub(crate) fn load<B: Makes>(here: &mut OnTable<'_>, _side: &Side, _ask: Request, at: usize) -> u64
+pub(crate) fn load<B: Call>(here: &mut OnTable<'_>, _side: &Side, _ask: Request, at: usize) -> u64
     requires { Ready here.old B.shape B.view B.step at (λ n. n) }
     ensures stays { Stays here.old here.new }
     ensures tells { Tells B.shape B.view B.step here.old.seat.now.me result here.new.seat.now.me }
@@ -61,13 +61,13 @@ struct Looking<B> {
     of: PhantomData<B>,
 }
 
-impl<B: Makes> Play<(), LinkedList<Sitter>> for Looking<B> {
+impl<B: Call> Play<(), LinkedList<Sitter>> for Looking<B> {
     ghost then = { λ _ was word me. Looks B.shape B.view B.step was word me };
 }
 
 /// A look at a word, which is no step: the trace stays as it is.
 #[inline(always)]
-pub(crate) fn look<B: Makes>(here: &mut OnTable<'_>, _side: &Side, _ask: Request, at: usize) -> u64
+pub(crate) fn look<B: Call>(here: &mut OnTable<'_>, _side: &Side, _ask: Request, at: usize) -> u64
     requires reads { IsReading B.step }
     requires ready { Ready here.old B.shape B.view B.step at (λ n. n) }
     ensures stays { Stays here.old here.new }
@@ -77,9 +77,9 @@ pub(crate) fn look<B: Makes>(here: &mut OnTable<'_>, _side: &Side, _ask: Request
     shared.load::<Looking<B>>(&mut *here.seat, at)
 }
 
-/// A swap and no store, since only a swap tells what it found: so each step is told alike.
+/// A swap and no store, since only a swap tells what it found: so each step is recorded alike.
 #[inline(always)]
-pub(crate) fn exchange<B: Makes>(
+pub(crate) fn exchange<B: Call>(
     here: &mut OnTable<'_>,
     _side: &Side,
     _ask: Request,
@@ -95,7 +95,7 @@ pub(crate) fn exchange<B: Makes>(
 }
 
 #[inline(always)]
-pub(crate) fn swap<B: Makes>(
+pub(crate) fn swap<B: Call>(
     here: &mut OnTable<'_>,
     _side: &Side,
     _ask: Request,
@@ -112,7 +112,7 @@ pub(crate) fn swap<B: Makes>(
 }
 
 #[inline(always)]
-pub(crate) fn count<B: Makes>(here: &mut OnTable<'_>, _side: &Side, _ask: Request, at: usize) -> u64
+pub(crate) fn count<B: Call>(here: &mut OnTable<'_>, _side: &Side, _ask: Request, at: usize) -> u64
     requires { Ready here.old B.shape B.view B.step at (λ n. (n + 1) % 2 ^ 64) }
     ensures stays { Stays here.old here.new }
     ensures tells { Tells B.shape B.view B.step here.old.seat.now.me result here.new.seat.now.me }

@@ -17,7 +17,7 @@ use Rattle.rh_splitting.specs.declared.fault.SplitFault.{SplitFault}
 use Rattle.rh_splitting.specs.declared.fault.SplitFault.TheVariants as faults_of
 use Rattle.rh_splitting.specs.declared.part.Part.{Part}
 use Rattle.rh_splitting.specs.Parts.{EachGot}
-use Rattle.rh_splitting.specs.Splitting.{IsTextFrom, Puts, SayFirst, SayThen, Splits, TakesText}
+use Rattle.rh_splitting.specs.Splitting.{IsTextFrom, PutsKeys, SayFirst, SayThen, Splits, TakesText}
 use Rattle.rh_splitting.proofs.Given.{both_given, failed_after}
 
 -- what a reading that holds no key says comes behind the keys that were given
@@ -154,7 +154,7 @@ takes_all bytes left n given line so_far (front, taken, count, on) = record {
 -- ---- a key that its part does not take
 
 pub refused_key : {W : Type 0} (X : Type 0) (bytes left : Option (List ℕ)) (contents : W → Option (List ℕ)) (first mid last : List (Part W)) (given keys : List ℕ) (fault : SplitFault) → EachGot contents first mid given → SayFirst bytes (given ++ keys)
-    → Puts {X = X} contents mid last keys (Err fault) → Splits {X = X} bytes left contents first last (Err fault)
+    → PutsKeys {X = X} contents mid last keys (Err fault) → Splits {X = X} bytes left contents first last (Err fault)
 refused_key X bytes left contents first mid last given keys (faults_of.Text fault) got say puts = absurd puts
 refused_key X bytes left contents first mid last given keys (faults_of.Keys fault) got say puts = absurd puts
 refused_key X bytes left contents first mid last given keys (faults_of.TooMany part) got say (front, key, stands, place, each, full) =

@@ -26,14 +26,14 @@ abbrev pub Stands : (keys front : List ℕ) (key : ℕ) → Type 0
 Stands keys front key = (more : List ℕ) × (keys ≡ front ++ (key ∷ more))
 
 -- Each part was given its keys; or those before the first key for which its part had no room, or whose write failed.
-abbrev pub Puts : {W X : Type 0} (contents : W → Option (List ℕ)) (old new : List (Part W)) (keys : List ℕ) → Result X SplitFault → Type 0
-Puts contents old new keys (Ok x) = EachGot contents old new keys
-Puts contents old new keys (Err (TooMany part)) =
+abbrev pub PutsKeys : {W X : Type 0} (contents : W → Option (List ℕ)) (old new : List (Part W)) (keys : List ℕ) → Result X SplitFault → Type 0
+PutsKeys contents old new keys (Ok x) = EachGot contents old new keys
+PutsKeys contents old new keys (Err (TooMany part)) =
     (front : List ℕ) × (key : ℕ) × Stands keys front key × (part_of (length old) key ≡ part) × EachGot contents old new front × IsFull new part
-Puts contents old new keys (Err (Write part)) =
+PutsKeys contents old new keys (Err (Write part)) =
     (front : List ℕ) × (key : ℕ) × Stands keys front key × (part_of (length old) key ≡ part) × EachGotButOne contents old new front key part
-Puts contents old new keys (Err (Text fault)) = ⊥
-Puts contents old new keys (Err (Keys fault)) = ⊥
+PutsKeys contents old new keys (Err (Text fault)) = ⊥
+PutsKeys contents old new keys (Err (Keys fault)) = ⊥
 
 -- ---- a text
 
@@ -96,7 +96,7 @@ IsFirstFault (Some bytes) fault = files.KeysFail {X = List ℕ × List ℕ} faul
 -- The bytes were a key file, and its keys were given to their parts; or they were none, and no part was given any.
 abbrev pub SplitsFile : {W X : Type 0} (bytes left : Option (List ℕ)) (contents : W → Option (List ℕ)) (old new : List (Part W)) → Result X SplitFault → Type 0
 SplitsFile bytes left contents old new (Err (Keys fault)) = IsFirstFault bytes fault × (new ≡ old)
-SplitsFile bytes left contents old new r = (keys : List ℕ) × files.IsReadFrom bytes left keys × Puts contents old new keys r
+SplitsFile bytes left contents old new r = (keys : List ℕ) × files.IsReadFrom bytes left keys × PutsKeys contents old new keys r
 
 -- the fault that was found in the key file, if one was
 abbrev pub fault_in_file : {X : Type 0} → Result X SplitFault → Option KeyFault
@@ -129,8 +129,9 @@ abbrev pub unread : Source → SplitFault
 unread sources.Text = Text faults.Read
 unread sources.Keys = Keys key_faults.Read
 
--- What a reader of it is read, and what is told of that: only so much is taken; a failed read is told only where one was counted, and
--- none was counted where the call tells that. Of a key file a failed read comes behind good keys, and want of memory behind a header.
+-- What is taken of its reader, and what is told of that. A failed read is told only where one was counted, and none was counted where
+-- the call tells so. Of a key file a failed read comes behind good keys, and want of memory behind a header. A text never has too many
+-- keys.
 pub record ReadsSource {R X : Type 0} (remaining : R → Option (List ℕ)) (source : Source) (old new : Counted R) (r : Result X SplitFault) : Type 0 where
   pub takes : TakesOfSource source (remaining (inner_of old)) (remaining (inner_of new)) r
   pub counts : Counts (IsErrOf r (unread source)) (NoReadFailedOf source r) old new

@@ -4,7 +4,7 @@ ghost use Rattle.std.specs.Prelude.{◌<◌, ◌≤◌, IsErrOf, length};
 ghost use Rattle.rh_bytes.specs.Counting.{Counts, inner_of};
 ghost use Rattle.rh_parts.specs.declared.part.TheConstants.{MAX_PARTS};
 ghost use Rattle.rh_splitting.specs.Splitting as splits;
-ghost use Rattle.rh_splitting.specs.Splitting.{Puts, ReadsSource, Splits, SplitsFile, TakesText};
+ghost use Rattle.rh_splitting.specs.Splitting.{PutsKeys, ReadsSource, Splits, SplitsFile, TakesText};
 ghost use Rattle.rh_splitting.specs.declared.source.Source.TheVariants as sources;
 
 use crate::fault::SplitFault;
@@ -51,7 +51,7 @@ pub fn split_text<R: Read, W: Write>(
 pub fn split_keys<W: Write>(keys: &[u64], parts: &mut [Part<W>]) -> Result<(), SplitFault>
     requires some { 0 < length parts.old }
     requires few { length parts.old ≤ MAX_PARTS }
-    ensures { Puts W.contents parts.old parts.new keys.now result }
+    ensures { PutsKeys W.contents parts.old parts.new keys.now result }
 {
     for key in keys {
         let part = part_of(parts.len() as u64, *key);

@@ -17,9 +17,9 @@ use std::thread::Threads;
 
 /// Is told of each key, and does nothing.
 #[derive(Drop)]
-pub struct Watch;
+pub struct SilentGate;
 
-impl Gate for Watch {
+impl Gate for SilentGate {
     fn before(&self, _worker: usize, _done: usize) {}
 
     fn after(
@@ -154,9 +154,9 @@ impl KeySource for NoKeys {
 
     ghost left_of = { λ _. 0 };
 
-    ghost told_by = { λ _. None };
+    ghost failed_with = { λ _. None };
 
-    fn left(&self) -> u64 {
+    fn keys_left(&self) -> u64 {
         0
     }
 

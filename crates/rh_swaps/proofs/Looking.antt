@@ -10,7 +10,7 @@ use Rattle.rh_helping.specs.Made.{HasStepped}
 use Rattle.rh_helping.specs.Next.{Looking}
 use Rattle.rh_helping.specs.Next.Looked.{Sees, Spent}
 use Rattle.rh_helping.specs.Stepping.{HasLooked}
-use Rattle.rh_shared.specs.Sits.{Sits, Stays, Steps}
+use Rattle.rh_shared.specs.Sits.{Sits, Stays, SeatSteps}
 use Rattle.rh_shared.specs.declared.on_table.OnTable.{OnTable}
 use Rattle.rh_shared.proofs.Lending.{stays_on}
 use Rattle.rh_swaps.specs.Swaps.{HasNoted, HasReadCell, IsSeen, HasLookedAt}
@@ -50,19 +50,19 @@ seen_later z c v w next seen n h = record {
 
 -- ---- the last step of a look, after others
 
-pub sees_word : {z : Shape} {c word : ℕ} {t u then : OnTable} {v w next : View} {l : Looking} → Stays t u → HasNoted v w → HasLooked Sits Steps z c l u w (Sees word) then next → HasLookedAt z c t v (Some word) then next
+pub sees_word : {z : Shape} {c word : ℕ} {t u then : OnTable} {v w next : View} {l : Looking} → Stays t u → HasNoted v w → HasLooked Sits SeatSteps z c l u w (Sees word) then next → HasLookedAt z c t v (Some word) then next
 sees_word {z} {c} {word} {t} {u} {then} {v} {w} {next} stays noted e = record {
   stays = record { stays = stays_on _ _ _ stays e.made.steps.stays; trusts = e.made.trusts };
   clear = e.leads.0;
-  told = e.made.steps.told;
+  rule_tells = e.made.steps.rule_tells;
   reads = seen_later z c v w next _ noted (plain_seen z _ c word u w then next e.made e.leads.1);
 }
 
-pub sees_none : {z : Shape} {c : ℕ} {t u then : OnTable} {v w next : View} {l : Looking} → Stays t u → HasNoted v w → HasLooked Sits Steps z c l u w Spent then next → HasLookedAt z c t v None then next
+pub sees_none : {z : Shape} {c : ℕ} {t u then : OnTable} {v w next : View} {l : Looking} → Stays t u → HasNoted v w → HasLooked Sits SeatSteps z c l u w Spent then next → HasLookedAt z c t v None then next
 sees_none {z} {c} {t} {u} {then} {v} {w} {next} stays noted e =
     let n = noted_on v w next noted (made_notes z _ u w then next e.made) in record {
       stays = record { stays = stays_on _ _ _ stays e.made.steps.stays; trusts = e.made.trusts };
       clear = e.leads.0;
-      told = e.made.steps.told;
+      rule_tells = e.made.steps.rule_tells;
       reads = record { seen_is = (n.reads, e.leads.1); worker = n.worker; opening = n.opening; facts = n.facts; opened = n.opened; next_number = n.next_number; claims = n.claims };
     }

@@ -11,7 +11,7 @@ use Rattle.rh_helping.specs.Next.{Work}
 use Rattle.rh_helping.specs.Next.StageOutcome.{Closed}
 use Rattle.rh_helping.specs.Stepping.{HasGoneOn}
 use Rattle.rh_helping.specs.Work.{FailsWithin, HasEnded}
-use Rattle.rh_shared.specs.Sits.{Sits, Stays, Steps}
+use Rattle.rh_shared.specs.Sits.{Sits, Stays, SeatSteps}
 use Rattle.rh_shared.specs.declared.on_table.OnTable.{OnTable}
 use Rattle.rh_shared.proofs.Lending.{stays_on}
 use Rattle.rh_swaps.specs.Swaps.{HasCarriedOut, HasNoted}
@@ -69,12 +69,12 @@ closed_is : (own desc : OwnDesc) → Some own ≡ Some desc → desc ≡ own
 closed_is own desc is = let e : own ≡ desc = cc in sym e
 
 -- it is closed by a step, after others
-pub closes : {z : Shape} {own : OwnDesc} {t u then : OnTable} {v w next : View} {x : Work} {k : Ended} → Stays t u → HasNoted v w → HasGoneOn Sits Steps z (Some own) x u w (Closed k) then next → HasCarriedOut z own t v k then next
+pub closes : {z : Shape} {own : OwnDesc} {t u then : OnTable} {v w next : View} {x : Work} {k : Ended} → Stays t u → HasNoted v w → HasGoneOn Sits SeatSteps z (Some own) x u w (Closed k) then next → HasCarriedOut z own t v k then next
 closes {z} {own} {t} {u} {then} {v} {w} {next} {x} {k} stays noted e =
     let l = e.leads.2 in
     let same = closed_is own e.leads.0 e.leads.1 in record {
       stays = record { stays = stays_on _ _ _ stays e.made.steps.stays; trusts = e.made.trusts };
-      told = e.made.steps.told;
+      rule_tells = e.made.steps.rule_tells;
       noted = noted_on v w next noted (made_notes z _ u w then next e.made);
       clear = record { own = l.own; owes = l.owes };
       result = subst (λ (o : OwnDesc). HasEnded next (own_ref next o.number) k) same l.result;

@@ -49,7 +49,7 @@ pub record HasOpened (v : View) (own : OwnDesc) (next : View) : Type 0 where
 -- This own descriptor ended so, where it failed at one of its entries, and is released; the rule tells of that moment.
 pub record HasCarriedOut (z : Shape) (own : OwnDesc) (t : OnTable) (v : View) (k : Ended) (then : OnTable) (next : View) : Type 0 where
   pub stays : StaysTrusted z t then next
-  pub told : RuleTells z next
+  pub rule_tells : RuleTells z next
   pub noted : HasNoted v next
   pub clear : IsClear next
   pub result : HasEnded next (own_ref next own.number) k
@@ -105,7 +105,7 @@ pub record HasReadCell (z : Shape) (c : ℕ) (v next : View) (seen : Option ℕ)
 pub record HasLookedAt (z : Shape) (c : ℕ) (t : OnTable) (v : View) (seen : Option ℕ) (then : OnTable) (next : View) : Type 0 where
   pub stays : StaysTrusted z t then next
   pub clear : IsClear next
-  pub told : RuleTells z next
+  pub rule_tells : RuleTells z next
   pub reads : HasReadCell z c v next seen
 
 -- A seat at rest read the cell so, and rests again with the same own acts; the rule tells of that moment.
@@ -113,4 +113,4 @@ pub record HasReadAtRest (t : Table) (c : ℕ) (s : Seat) (seen : Option ℕ) (t
   pub stays : StaysAtRest t s then
   pub acts : made (view_of then) ≡ made (view_of s)
   pub reads : HasReadCell t.shape c (view_of s) (view_of then) seen
-  pub told : RuleTells t.shape (view_of then)
+  pub rule_tells : RuleTells t.shape (view_of then)

@@ -35,7 +35,7 @@ pub enum Outcome {
 /// Changes the cells of the entries from their old words to their new ones, all in one act, or
 /// none. Where no number is left for a descriptor, or no mark, it makes no step: its descriptor
 /// would be withdrawn all the same. Later it is `Spent` only where the last mark was used up on the
-/// way. Once a step was made, `told` has what the rule tells of all acts then.
+/// way. Once a step was made, `rule_tells` has what the rule tells of all acts then.
 pub fn kcas<R: Wait>(rt: &R, table: &Table, seat: &mut Seat, entries: &[Entry]) -> Outcome
     requires rests { SeatRests table.now seat.old }
     requires entries { AreEntries table.now.shape entries.now }
@@ -43,7 +43,7 @@ pub fn kcas<R: Wait>(rt: &R, table: &Table, seat: &mut Seat, entries: &[Entry]) 
     ensures full { HasNoRoom table.now.shape (view_of seat.old) (view_of seat.old) →
         (seat.new ≡ seat.old) × (result ≡ Spent) }
     ensures swaps { Swaps table.now.shape entries.now (view_of seat.old) (view_of seat.new) result }
-    ensures told { (seat.new ≡ seat.old) ⊎ RuleTells table.now.shape (view_of seat.new) }
+    ensures rule_tells { (seat.new ≡ seat.old) ⊎ RuleTells table.now.shape (view_of seat.new) }
 {
     let shape = table.shape;
     if shape.rooms.descriptors <= seat.side.next_number

@@ -32,7 +32,7 @@ use Rattle.rh_order.specs.Laws.{started}
 use Rattle.rh_order.proofs.Turning.{run_starts}
 use Rattle.rh_shared.specs.Crews.{HasAll, IsFresh, views_of}
 use Rattle.rh_threads.specs.Crew.{CanWork}
-use Rattle.rh_threads.specs.Hands.{HandStands, answer, left_over, progress_by}
+use Rattle.rh_threads.specs.Hands.{HandStands, answer_at, left_over, progress_by}
 use Rattle.rh_threads.specs.Made.{AreNew, IsNew}
 use Rattle.rh_threads.specs.Rounds.{Comes, Setting, at_table, past_of}
 use Rattle.rh_threads.specs.declared.crew.Crew.{Crew}
@@ -105,7 +105,7 @@ module _ (ph : Setting) (t : Table) (c : Crew) (shape_is : t.shape ≡ ph.shape)
     words = map plain_number ph.opening ++ replicate (row_total t.shape + 1) 0;
     keep = new_view (map plain_number ph.opening);
     done = λ v. [];
-    told = λ v. [];
+    answers = λ v. [];
     run = run;
     stands = λ r s h e f.
         let n = new_hand r h f in
@@ -118,7 +118,7 @@ module _ (ph : Setting) (t : Table) (c : Crew) (shape_is : t.shape ≡ ph.shape)
             claimed_are = ap (λ (b : Bool). left_over b h.position) (sym n.no_key);
             done_are = n.none_done;
             counts = n.unchanged;
-            marks = λ p inside. ((λ is. absurd (true≢false (sym is ∙ unmarked h n p inside))), (λ has. absurd (contains_none (answer p true) has)));
+            marks = λ p inside. ((λ is. absurd (true≢false (sym is ∙ unmarked h n p inside))), (λ has. absurd (contains_none (answer_at p true) has)));
           };
           opening = refl;
           long = ap length n.unmarked ∙ length-replicate ph.positions false;

@@ -27,7 +27,7 @@ use Rattle.rh_order.specs.Words.{cells_held}
 use Rattle.rh_order.proofs.Answering.{run_answers}
 use Rattle.rh_order.proofs.Sharing.{claims_at, claims_size, run_shared_ends, shared_out}
 use Rattle.rh_shared.specs.Ends.{Leaves}
-use Rattle.rh_threads.specs.Hands.{Answer, InPairs, IsFinished, IsHand, answer, keys_done, left_over, positions_of, told_of}
+use Rattle.rh_threads.specs.Hands.{KeyAnswer, InPairs, IsFinished, IsHand, answer_at, keys_done, left_over, positions_of, without_positions}
 use Rattle.rh_threads.specs.Made.{HasWorkedOut, first_set}
 use Rattle.rh_threads.specs.Rounds.{Comes, Setting, all_changed, is_marked, run_of}
 use Rattle.rh_threads.specs.declared.hand.Hand.{Hand}
@@ -51,8 +51,8 @@ module _ (ph : Setting) (vs : List Sitter) (hs : List Hand) (values : List ℕ) 
   abbrev done : ℕ → List ℕ
   done v = keys_done ph.keys (ga.answers v)
 
-  abbrev told : ℕ → List Bool
-  told v = told_of (ga.answers v)
+  abbrev plain_answers : ℕ → List Bool
+  plain_answers v = without_positions (ga.answers v)
 
   is_finished : (v : ℕ) (h : Hand) → get_elem? hs v ≡ some h → IsFinished h
   is_finished v h at = subst IsFinished (at_or hs v h h at) (finished v h (there hs v h at))
@@ -69,10 +69,10 @@ module _ (ph : Setting) (vs : List Sitter) (hs : List Hand) (values : List ℕ) 
       by.answered.claimed_are ∙ ap (λ (b : Bool). positions_of (ga.answers v) ++ left_over b by.hand.position) (is_finished v by.hand by.at).no_key ∙ append-nil (positions_of (ga.answers v))
 
   all_done : (v : ℕ) → v < ph.shape.workers → done v ≡ map (slice_index ph.keys) (claimed ph.shape (m.keep v))
-  all_done v less = sym (ap (map (slice_index ph.keys)) (claimed_are v less) ∙ map-map (slice_index ph.keys) (λ (a : Answer). a.position) (ga.answers v))
+  all_done v less = sym (ap (map (slice_index ph.keys)) (claimed_are v less) ∙ map-map (slice_index ph.keys) (λ (a : KeyAnswer). a.position) (ga.answers v))
 
   abbrev run : Run
-  run = run_of ph m.words m.keep done told
+  run = run_of ph m.words m.keep done plain_answers
 
   ends : FinalSpec run S ph.keys
   ends = run_shared_ends run S ph.keys ga.run m.rest layout (sym list) found_end all_done room
@@ -87,21 +87,21 @@ module _ (ph : Setting) (vs : List Sitter) (hs : List Hand) (values : List ℕ) 
   -- ---- the tally
 
   module _ (few : count_in ph.kind (tally_of ph.kind S ph.keys) < 2 ^ 64) where
-    sum_is : sum_below (λ v. how_many (told v)) ph.shape.workers ≡ count_in ph.kind (tally_of ph.kind S ph.keys)
-    sum_is = sym (count_sum ph.kind told ph.shape.workers) ∙ ap (count_in ph.kind) ends.tally
+    sum_is : sum_below (λ v. how_many (plain_answers v)) ph.shape.workers ≡ count_in ph.kind (tally_of ph.kind S ph.keys)
+    sum_is = sym (count_sum ph.kind plain_answers ph.shape.workers) ∙ ap (count_in ph.kind) ends.tally
 
-    changed_is : (v : ℕ) (h : Hand) → get_elem? hs v ≡ some h → h.changed ≡ how_many (told v)
+    changed_is : (v : ℕ) (h : Hand) → get_elem? hs v ≡ some h → h.changed ≡ how_many (plain_answers v)
     changed_is v h at =
         let less : v < ph.shape.workers = let l = there hs v h at in omega (arith, l, long) in
         let by = ga.each v less in
         let same : by.hand ≡ h = some-injective by.hand h (sym by.at ∙ at) in
-        let counts : h.changed ≡ min (how_many (told v)) (2 ^ 64 - 1) = subst (λ (g : Hand). g.changed ≡ min (how_many (told v)) (2 ^ 64 - 1)) same by.answered.counts in
-        let one = one_of_sum (λ u. how_many (told u)) ph.shape.workers v less in
+        let counts : h.changed ≡ min (how_many (plain_answers v)) (2 ^ 64 - 1) = subst (λ (g : Hand). g.changed ≡ min (how_many (plain_answers v)) (2 ^ 64 - 1)) same by.answered.counts in
+        let one = one_of_sum (λ u. how_many (plain_answers u)) ph.shape.workers v less in
         let sum = sum_is in
         omega (arith, counts, one, sum, few)
 
     pub changed_all : all_changed hs ≡ count_in ph.kind (tally_of ph.kind S ph.keys)
-    changed_all = all_changed_is hs (λ v. how_many (told v)) changed_is ∙ ap (sum_below (λ v. how_many (told v))) long ∙ sum_is
+    changed_all = all_changed_is hs (λ v. how_many (plain_answers v)) changed_is ∙ ap (sum_below (λ v. how_many (plain_answers v))) long ∙ sum_is
 
     pub tally_made : tally_by ph.kind (length ph.keys) (all_changed hs) ≡ tally_of ph.kind S ph.keys
     tally_made = ap (tally_by ph.kind (length ph.keys)) changed_all ∙ tally_is ph.kind S ph.keys
@@ -109,9 +109,9 @@ module _ (ph : Setting) (vs : List Sitter) (hs : List Hand) (values : List ℕ) 
   -- ---- the answers
 
   module _ (asks : ph.kind ≡ Ask) where
-    told_so : (v : ℕ) → v < ph.shape.workers → (a : Answer) → Contains (ga.answers v) a → a.told ≡ contains S (slice_index ph.keys a.position)
-    told_so v less a has = alike_at (λ (x : Answer). x.told) (λ (x : Answer). contains S (slice_index ph.keys x.position)) (ga.answers v) a
-        (run_answers run S ga.run layout asks v less ∙ map-map (contains S) (λ (x : Answer). slice_index ph.keys x.position) (ga.answers v)) has
+    answer_is : (v : ℕ) → v < ph.shape.workers → (a : KeyAnswer) → Contains (ga.answers v) a → a.answer ≡ contains S (slice_index ph.keys a.position)
+    answer_is v less a has = alike_at (λ (x : KeyAnswer). x.answer) (λ (x : KeyAnswer). contains S (slice_index ph.keys x.position)) (ga.answers v) a
+        (run_answers run S ga.run layout asks v less ∙ map-map (contains S) (λ (x : KeyAnswer). slice_index ph.keys x.position) (ga.answers v)) has
 
     pub found_made : (p : ℕ) → p < length ph.keys → p < ph.positions → is_marked hs p ≡ contains S (slice_index ph.keys p)
     found_made p inside within = same_truth (is_marked hs p) (contains S (slice_index ph.keys p)) there_is back
@@ -123,7 +123,7 @@ module _ (ph : Setting) (vs : List Sitter) (hs : List Hand) (values : List ℕ) 
             let by = ga.each one.0 less in
             let same : by.hand ≡ one.1 = some-injective by.hand one.1 (sym by.at ∙ one.2) in
             let at : slice_index_or by.hand.found.items p false ≡ true = subst (λ (g : Hand). slice_index_or g.found.items p false ≡ true) (sym same) one.3 in
-            sym (told_so one.0 less (answer p true) ((by.answered.marks p (let l = by.long in omega (arith, within, l))).0 at))
+            sym (answer_is one.0 less (answer_at p true) ((by.answered.marks p (let l = by.long in omega (arith, within, l))).0 at))
 
         back : contains S (slice_index ph.keys p) ≡ true → is_marked hs p ≡ true
         back is =
@@ -132,9 +132,9 @@ module _ (ph : Setting) (vs : List Sitter) (hs : List Hand) (values : List ℕ) 
             let size = claims_size m.w ph.shape m.words m.keep m.core in
             let less : one.0 < ph.shape.workers = let l = one.1 in omega (arith, l, size) in
             let here : Contains (positions_of (ga.answers one.0)) p = subst (λ (l : List ℕ). Contains l p) (claims_at m.w ph.shape m.words m.keep m.core one.0 less ∙ claimed_are one.0 less) one.2 in
-            let a = of_mapped (λ (x : Answer). x.position) (ga.answers one.0) p here in
-            let so : a.0.told ≡ true = told_so one.0 less a.0 a.1 ∙ ap (λ (q : ℕ). contains S (slice_index ph.keys q)) a.2 ∙ is in
-            let it : Contains (ga.answers one.0) (answer p true) = subst (Contains (ga.answers one.0)) (λ i. answer (a.2 i) (so i)) a.1 in
+            let a = of_mapped (λ (x : KeyAnswer). x.position) (ga.answers one.0) p here in
+            let so : a.0.answer ≡ true = answer_is one.0 less a.0 a.1 ∙ ap (λ (q : ℕ). contains S (slice_index ph.keys q)) a.2 ∙ is in
+            let it : Contains (ga.answers one.0) (answer_at p true) = subst (Contains (ga.answers one.0)) (λ i. answer_at (a.2 i) (so i)) a.1 in
             let by = ga.each one.0 less in
             by_one hs p one.0 by.hand by.at ((by.answered.marks p (let l = by.long in omega (arith, within, l))).1 it)
 

@@ -13,7 +13,7 @@ use Rattle.rh_order.specs.Run.{ProgressInvariant, RunInvariant}
 use Rattle.rh_order.specs.Words.{IsWiped}
 use Rattle.rh_order.proofs.Stepping.{run_gathers}
 use Rattle.rh_order.proofs.Turning.{run_rounds}
-use Rattle.rh_threads.specs.Hands.{Answer, Answered, Past, HandStands, keys_done, progress_by, told_of, InPairs, IsHand}
+use Rattle.rh_threads.specs.Hands.{KeyAnswer, Answered, Past, HandStands, keys_done, progress_by, without_positions, InPairs, IsHand}
 use Rattle.rh_threads.specs.Rounds.{Comes, Setting, past_of, run_of, at_table}
 use Rattle.rh_threads.specs.declared.hand.Hand.{Hand}
 use Rattle.std.specs.Prelude.{slice_index}
@@ -79,7 +79,7 @@ choose P other (suc n) each =
     )
 
 -- what the worker of this number answered, and its hand
-pub record AnsweredBy (ph : Setting) (keep : ℕ → View) (hs : List Hand) (v : ℕ) (answers : List Answer) : Type 0 where
+pub record AnsweredBy (ph : Setting) (keep : ℕ → View) (hs : List Hand) (v : ℕ) (answers : List KeyAnswer) : Type 0 where
   pub hand : Hand
   pub at : get_elem? hs v ≡ some hand
   pub kind_is : hand.kind ≡ ph.kind
@@ -88,8 +88,8 @@ pub record AnsweredBy (ph : Setting) (keep : ℕ → View) (hs : List Hand) (v :
 
 -- the run at the end of a round
 pub record Gathered (ph : Setting) (words : List ℕ) (keep : ℕ → View) (hs : List Hand) : Type 0 where
-  pub answers : ℕ → List Answer
-  pub run : RunInvariant (run_of ph words keep (λ v. keys_done ph.keys (answers v)) (λ v. told_of (answers v)))
+  pub answers : ℕ → List KeyAnswer
+  pub run : RunInvariant (run_of ph words keep (λ v. keys_done ph.keys (answers v)) (λ v. without_positions (answers v)))
   pub each : (v : ℕ) → v < ph.shape.workers → AnsweredBy ph keep hs v (answers v)
 
 module _ (ph : Setting) (vs : List Sitter) (hs : List Hand) (spans : Spans vs 0 ph.shape.workers) (long : length hs ≡ ph.shape.workers) (comes : Comes ph vs hs) (m : AreMade ph.shape vs) where
@@ -97,13 +97,13 @@ module _ (ph : Setting) (vs : List Sitter) (hs : List Hand) (spans : Spans vs 0 
   past = past_of ph.positions comes.run
 
   -- what stands for a worker, by its number
-  record StandsAt (v : ℕ) (answers : List Answer) : Type 0 where
+  record StandsAt (v : ℕ) (answers : List KeyAnswer) : Type 0 where
     hand : Hand
     at : get_elem? hs v ≡ some hand
     stands : HandStands ph.shape ph.keys (past v) hand (m.keep v)
     same : stands.answers ≡ answers
 
-  stands_at : (v : ℕ) → v < ph.shape.workers → (answers : List Answer) × StandsAt v answers
+  stands_at : (v : ℕ) → v < ph.shape.workers → (answers : List KeyAnswer) × StandsAt v answers
   stands_at v less =
       let s = item_at vs v (let l = spans.long in omega (arith, l, less)) in
       let h = item_at hs v (omega (arith, long, less)) in
@@ -112,25 +112,25 @@ module _ (ph : Setting) (vs : List Sitter) (hs : List Hand) (spans : Spans vs 0 
       (subst (λ (w : ℕ). HandStands ph.shape ph.keys (past w) h.0 s.0.view) whose (comes.stands v s.0 h.0 s.1 h.1)) in
       (st.answers, record { hand = h.0; at = h.1; stands = st; same = refl })
 
-  chosen : (f : ℕ → List Answer) × ((v : ℕ) → v < ph.shape.workers → StandsAt v (f v))
+  chosen : (f : ℕ → List KeyAnswer) × ((v : ℕ) → v < ph.shape.workers → StandsAt v (f v))
   chosen = choose StandsAt [] ph.shape.workers stands_at
 
-  doing_at : (v : ℕ) (answers : List Answer) → StandsAt v answers → ProgressInvariant ph.shape ph.kind (progress_by ph.keys (past v) (m.keep v) answers)
+  doing_at : (v : ℕ) (answers : List KeyAnswer) → StandsAt v answers → ProgressInvariant ph.shape ph.kind (progress_by ph.keys (past v) (m.keep v) answers)
   doing_at v answers is =
-      subst (λ (l : List Answer). ProgressInvariant ph.shape ph.kind (progress_by ph.keys (past v) (m.keep v) l)) is.same
+      subst (λ (l : List KeyAnswer). ProgressInvariant ph.shape ph.kind (progress_by ph.keys (past v) (m.keep v) l)) is.same
       (subst (λ (k : Kind). ProgressInvariant ph.shape k (progress_by ph.keys (past v) (m.keep v) is.stands.answers)) is.stands.kind_is is.stands.doing)
 
   pub gathered : Gathered ph m.words m.keep hs
   gathered = record {
     answers = chosen.0;
-    run = run_gathers (run_of ph comes.words comes.keep comes.done comes.told) comes.run m.words m.keep (λ v. keys_done ph.keys (chosen.0 v)) (λ v. told_of (chosen.0 v)) m.w 0 m.core ph.shape.some_worker
+    run = run_gathers (run_of ph comes.words comes.keep comes.done comes.answers) comes.run m.words m.keep (λ v. keys_done ph.keys (chosen.0 v)) (λ v. without_positions (chosen.0 v)) m.w 0 m.core ph.shape.some_worker
         (chosen.1 0 ph.shape.some_worker).stands.opening (λ v less. doing_at v (chosen.0 v) (chosen.1 v less));
     each = λ v less. let is = chosen.1 v less in record {
       hand = is.hand;
       at = is.at;
       kind_is = is.stands.kind_is;
       long = is.stands.long;
-      answered = subst (λ (l : List Answer). Answered ph.shape is.hand (m.keep v) l) is.same is.stands.answered;
+      answered = subst (λ (l : List KeyAnswer). Answered ph.shape is.hand (m.keep v) l) is.same is.stands.answered;
     };
   }
 
@@ -140,7 +140,7 @@ module _ (ph : Setting) (vs : List Sitter) (hs : List Hand) (spans : Spans vs 0 
     words = then;
     keep = λ v. round_view m.cells (m.keep v);
     done = λ v. keys_done ph.keys (gathered.answers v);
-    told = λ v. told_of (gathered.answers v);
+    answers = λ v. without_positions (gathered.answers v);
     run = run;
     stands = λ r s h e f.
         let old = of_map (λ k. sitter (round_view m.cells k.view) []) vs r s (subst (λ (l : List Sitter). get_elem? l r ≡ some s) is e) in
@@ -168,8 +168,8 @@ module _ (ph : Setting) (vs : List Sitter) (hs : List Hand) (spans : Spans vs 0 
       then : List ℕ
       then = wiped.0
 
-      run : RunInvariant (run_of ph then (λ v. round_view m.cells (m.keep v)) (λ v. keys_done ph.keys (gathered.answers v)) (λ v. told_of (gathered.answers v)))
-      run = run_rounds (run_of ph m.words m.keep (λ v. keys_done ph.keys (gathered.answers v)) (λ v. told_of (gathered.answers v))) then m.cells m.rest m.front wiped.1 gathered.run
+      run : RunInvariant (run_of ph then (λ v. round_view m.cells (m.keep v)) (λ v. keys_done ph.keys (gathered.answers v)) (λ v. without_positions (gathered.answers v)))
+      run = run_rounds (run_of ph m.words m.keep (λ v. keys_done ph.keys (gathered.answers v)) (λ v. without_positions (gathered.answers v))) then m.cells m.rest m.front wiped.1 gathered.run
 
 -- ---- one round after the other
 
@@ -184,7 +184,7 @@ module _ (t : Table) (keys : List ℕ) (c then : Crew) (all : HasAll t c.seat) (
   worked_all = record { own = worked.crew.here.own; first = worked.first ∙ all.first; count = worked.count ∙ all.count }
 
   pub worked_comes : (ph : Setting) → Comes (at_table t keys ph) (views_of c.seat) c.hands → Comes (at_table t keys ph) (views_of then.seat) then.hands
-  worked_comes ph was = record { words = was.words; keep = was.keep; done = was.done; told = was.told; run = was.run; stands = worked.stands (past_of ph.positions was.run) was.stands }
+  worked_comes ph was = record { words = was.words; keep = was.keep; done = was.done; answers = was.answers; run = was.run; stands = worked.stands (past_of ph.positions was.run) was.stands }
 
   -- ---- and their table was wiped
 

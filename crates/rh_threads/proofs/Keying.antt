@@ -13,7 +13,7 @@ use Rattle.rh_world.specs.World.{In, IsFalling}
 use Rattle.rh_world.proofs.Updated.{same_nat, some_not_none}
 use Rattle.rh_tagword.specs.Word.{IsValue}
 use Rattle.rh_acts.specs.Act.{Act}
-use Rattle.rh_acts.specs.Done.{Does, IsTold, Kept, kept}
+use Rattle.rh_acts.specs.Done.{Does, IsAsRead, Kept, kept}
 use Rattle.rh_words.specs.declared.shape.Shape.{Shape}
 use Rattle.rh_words.specs.Parts.{cell_count}
 use Rattle.rh_words.specs.View.{OwnDesc, View, own_ref}
@@ -27,7 +27,7 @@ use Rattle.rh_order.specs.OwnActs.{Orderly}
 use Rattle.rh_order.specs.Known.{KnowsHeld}
 use Rattle.rh_order.specs.Laws.{furthered}
 use Rattle.rh_order.specs.Run.{Progress, ProgressInvariant}
-use Rattle.rh_order.proofs.Stepping.{act_done, none_done, opened_more, opened_same, told_done}
+use Rattle.rh_order.proofs.Stepping.{act_done, none_done, opened_more, opened_same, done_by_reads}
 use Rattle.rh_shared.specs.Rests.{IsRested, StaysAtRest}
 use Rattle.rh_swaps.specs.Swaps.{HasGivenUp, IsSeen, RestSpec, Swaps}
 use Rattle.rh_swaps.specs.Swaps.{HasReadCell as WasRead}
@@ -38,11 +38,11 @@ use Rattle.rh_shared.specs.declared.seat.Seat.{Seat}
 use Rattle.rh_shared.specs.declared.table.Table.{Table}
 use Rattle.rh_worker.specs.Deciding.{Decides}
 use Rattle.rh_worker.specs.declared.deciding.Decision.TheVariants.{Done}
-use Rattle.rh_worker.specs.Reading.{HasScanned, IsToldAnew, seen_back}
+use Rattle.rh_worker.specs.Reading.{HasScanned, IsAsReadAnew, seen_back}
 use Rattle.rh_worker.specs.Worker.{HasNoRoom}
 use Rattle.rh_worker.proofs.Keeping.{read_first}
 use Rattle.rh_worker.proofs.Anew.{each_read, front_read, kept_alike, one_read}
-use Rattle.rh_worker.proofs.Scans.{told_is}
+use Rattle.rh_worker.proofs.Scans.{as_read_is}
 use Rattle.rh_threads.specs.Keys.{Furthers, HasOnlyRead, IsDoneSo, IsUndone}
 
 -- ---- what is so of a worker that rests
@@ -112,11 +112,11 @@ module _ {z : Shape} {kind : Kind} {k : ℕ} {u v w : View} (a : IsUndone z kind
     furthers = furthers_on z kind k u v w None a.furthers b.furthers;
   }
 
-  pub done_on : {told : Bool} → IsDoneSo z kind k v w told → IsDoneSo z kind k u w told
-  done_on {told} b = record {
+  pub done_on : {answer : Bool} → IsDoneSo z kind k v w answer → IsDoneSo z kind k u w answer
+  done_on {answer} b = record {
     claims = b.claims ∙ a.claims;
     opening = b.opening ∙ a.opening;
-    furthers = furthers_on z kind k u v w (Some told) a.furthers b.furthers;
+    furthers = furthers_on z kind k u v w (Some answer) a.furthers b.furthers;
     so = ⊎_elim
         (λ act. inl record { act = act.act; own = act.own ∙ ap (λ l. l ++ act.act ∷ []) a.own; does = act.does })
         (λ read. inr record {
@@ -133,14 +133,14 @@ module _ {z : Shape} {kind : Kind} {k : ℕ} {u v w : View} (a : IsUndone z kind
         }) b.so;
   }
 
--- what is told where the cells that were read decide
-pub scan_tells : {z : Shape} {kind : Kind} {k : ℕ} {before : List Kept} {next : View} {now : List ℕ} {n : ℕ} (entries : List Entry) {told : Bool} → n ≤ length now → length now ≤ cell_count z
-    → HasScanned z before next k now n → Decides kind z.bits k (take n now) entries (Done told) → IsToldAnew z before next kind k told × IsTold kind z.bits (kept_of z next) k told
-scan_tells {z} {kind} {k} {before} {next} {now} {n} entries {told} within room read decides =
+-- the answer, where the cells that were read decide
+pub scan_tells : {z : Shape} {kind : Kind} {k : ℕ} {before : List Kept} {next : View} {now : List ℕ} {n : ℕ} (entries : List Entry) {answer : Bool} → n ≤ length now → length now ≤ cell_count z
+    → HasScanned z before next k now n → Decides kind z.bits k (take n now) entries (Done answer) → IsAsReadAnew z before next kind k answer × IsAsRead kind z.bits (kept_of z next) k answer
+scan_tells {z} {kind} {k} {before} {next} {now} {n} entries {answer} within room read decides =
     let front = front_read z before next k now n within read in
     let few : length (take n now) ≤ cell_count z = let l = length-take-le n now within in omega (arith, l, within, room) in (
       record { seen = take n now; read = front; tells = decides },
-      told_is kind z next k (take n now) entries told few (each_read z before next k (take n now) front) decides,
+      as_read_is kind z next k (take n now) entries answer few (each_read z before next k (take n now) front) decides,
     )
 
 -- one cell more was read
@@ -160,14 +160,14 @@ one_value seen n value within is values p less = ⊎_elim
     (same_nat p n)
 
 -- the key is done where what was read tells it
-pub done_told : {z : Shape} {kind : Kind} {k : ℕ} {v next : View} {told : Bool} → IsUndone z kind k v next → IsToldAnew z (kept_of z v) next kind k told → IsTold kind z.bits (kept_of z next) k told
-    → IsDoneSo z kind k v next told
-done_told {z} {kind} {k} {v} {next} {told} u anew tells = record {
+pub done_as_read : {z : Shape} {kind : Kind} {k : ℕ} {v next : View} {answer : Bool} → IsUndone z kind k v next → IsAsReadAnew z (kept_of z v) next kind k answer → IsAsRead kind z.bits (kept_of z next) k answer
+    → IsDoneSo z kind k v next answer
+done_as_read {z} {kind} {k} {v} {next} {answer} u anew tells = record {
   claims = u.claims;
   opening = u.opening;
   furthers = λ p among is.
       let so_far = u.furthers p among is in
-      told_done kind z (record p { view = next }) next so_far so_far.orderly so_far.knows (λ r h. h) k told refl tells (opened_same kind z (record p { view = next }) next so_far so_far.orderly so_far.knows (λ r h. h) refl);
+      done_by_reads kind z (record p { view = next }) next so_far so_far.orderly so_far.knows (λ r h. h) k answer refl tells (opened_same kind z (record p { view = next }) next so_far so_far.orderly so_far.knows (λ r h. h) refl);
   so = inr record { own = u.own; tells = anew };
 }
 

@@ -19,7 +19,7 @@ use Rattle.rh_order.specs.Laws.{furthered}
 use Rattle.rh_order.specs.Run.{Progress, ProgressInvariant}
 use Rattle.rh_order.proofs.Stepping.{worker_claims}
 use Rattle.rh_threads.specs.Keys.{Furthers}
-use Rattle.rh_threads.specs.Hands.{Answer, Past, HandStands, answer, keys_done, left_over, positions_of, progress_by, told_of, HasClaimed}
+use Rattle.rh_threads.specs.Hands.{KeyAnswer, Past, HandStands, answer_at, keys_done, left_over, positions_of, progress_by, without_positions, HasClaimed}
 use Rattle.rh_threads.specs.declared.hand.Hand.{Hand}
 use Rattle.rh_shared.specs.declared.seat.Seat.{Seat}
 use Rattle.rh_shared.specs.declared.table.Table.{Table}
@@ -50,48 +50,48 @@ same_claimed z v next same = ap (λ (l : List ℕ). reverse (filter (λ n. nat_l
 
 -- ---- an answer more
 
-marks_more : (found : List Bool) (answers : List Answer) (position : ℕ) (told : Bool) (p : ℕ) → p < length found → ((slice_index_or found p false ≡ true) ↔ Contains answers (answer p true))
-    → (slice_index_or (cond told (set found position true) found) p false ≡ true) ↔ Contains (answers ++ answer position told ∷ []) (answer p true)
+marks_more : (found : List Bool) (answers : List KeyAnswer) (position : ℕ) (answer : Bool) (p : ℕ) → p < length found → ((slice_index_or found p false ≡ true) ↔ Contains answers (answer_at p true))
+    → (slice_index_or (cond answer (set found position true) found) p false ≡ true) ↔ Contains (answers ++ answer_at position answer ∷ []) (answer_at p true)
 marks_more found answers position true p inside was = (there, back)
   where
-    there : slice_index_or (set found position true) p false ≡ true → Contains (answers ++ answer position true ∷ []) (answer p true)
+    there : slice_index_or (set found position true) p false ≡ true → Contains (answers ++ answer_at position true ∷ []) (answer_at p true)
     there is = ⊎_elim
-        (λ (e : p ≡ position). Contains-append_right answers (answer position true ∷ []) (answer p true) (subst (λ (q : ℕ). Contains (answer position true ∷ []) (answer q true)) (sym e) (contains_head (answer position true) [])))
-        (λ (ne : p ≢ position). Contains-append_left answers (answer position true ∷ []) (answer p true) (was.0 (sym (get_or-set_other found position p true false ne) ∙ is)))
+        (λ (e : p ≡ position). Contains-append_right answers (answer_at position true ∷ []) (answer_at p true) (subst (λ (q : ℕ). Contains (answer_at position true ∷ []) (answer_at q true)) (sym e) (contains_head (answer_at position true) [])))
+        (λ (ne : p ≢ position). Contains-append_left answers (answer_at position true ∷ []) (answer_at p true) (was.0 (sym (get_or-set_other found position p true false ne) ∙ is)))
         (same_nat p position)
 
     here : p ≡ position → slice_index_or (set found position true) p false ≡ true
     here e = ap (λ (q : ℕ). slice_index_or (set found position true) q false) e ∙ get_or-set_same found position true false (subst (λ (q : ℕ). q < length found) e inside)
 
-    back : Contains (answers ++ answer position true ∷ []) (answer p true) → slice_index_or (set found position true) p false ≡ true
+    back : Contains (answers ++ answer_at position true ∷ []) (answer_at p true) → slice_index_or (set found position true) p false ≡ true
     back h = ⊎_elim
-        (λ (old : Contains answers (answer p true)). ⊎_elim here (λ (ne : p ≢ position). get_or-set_other found position p true false ne ∙ was.1 old) (same_nat p position))
-        (λ (new : Contains (answer position true ∷ []) (answer p true)). ⊎_elim
-        (λ (e : answer position true ≡ answer p true). here (sym (ap (λ (a : Answer). a.position) e)))
-        (λ none. absurd (contains_none (answer p true) none)) (contains_cases (answer position true) (answer p true) [] new))
-        (Contains-append_cases answers (answer position true ∷ []) (answer p true) h)
+        (λ (old : Contains answers (answer_at p true)). ⊎_elim here (λ (ne : p ≢ position). get_or-set_other found position p true false ne ∙ was.1 old) (same_nat p position))
+        (λ (new : Contains (answer_at position true ∷ []) (answer_at p true)). ⊎_elim
+        (λ (e : answer_at position true ≡ answer_at p true). here (sym (ap (λ (a : KeyAnswer). a.position) e)))
+        (λ none. absurd (contains_none (answer_at p true) none)) (contains_cases (answer_at position true) (answer_at p true) [] new))
+        (Contains-append_cases answers (answer_at position true ∷ []) (answer_at p true) h)
 marks_more found answers position false p inside was = (
-  (λ is. Contains-append_left answers (answer position false ∷ []) (answer p true) (was.0 is)),
+  (λ is. Contains-append_left answers (answer_at position false ∷ []) (answer_at p true) (was.0 is)),
   (λ h. ⊎_elim was.1
-      (λ (new : Contains (answer position false ∷ []) (answer p true)). ⊎_elim
-      (λ (e : answer position false ≡ answer p true). absurd (true≢false (sym (ap (λ (a : Answer). a.told) e))))
-      (λ none. absurd (contains_none (answer p true) none)) (contains_cases (answer position false) (answer p true) [] new))
-      (Contains-append_cases answers (answer position false ∷ []) (answer p true) h)),
+      (λ (new : Contains (answer_at position false ∷ []) (answer_at p true)). ⊎_elim
+      (λ (e : answer_at position false ≡ answer_at p true). absurd (true≢false (sym (ap (λ (a : KeyAnswer). a.answer) e))))
+      (λ none. absurd (contains_none (answer_at p true) none)) (contains_cases (answer_at position false) (answer_at p true) [] new))
+      (Contains-append_cases answers (answer_at position false ∷ []) (answer_at p true) h)),
 )
 
-marked_long : (found : List Bool) (position : ℕ) (told : Bool) → length (cond told (set found position true) found) ≡ length found
+marked_long : (found : List Bool) (position : ℕ) (answer : Bool) → length (cond answer (set found position true) found) ≡ length found
 marked_long found position true = length-set found position true
 marked_long found position false = refl
 
-counts_more : (answers : List Answer) (position old new : ℕ) (told : Bool) → old ≡ min (count_by (λ so. so) (told_of answers)) (2 ^ 64 - 1) → new ≡ cond told (min (old + 1) (2 ^ 64 - 1)) old
-    → new ≡ min (count_by (λ so. so) (told_of (answers ++ answer position told ∷ []))) (2 ^ 64 - 1)
-counts_more answers position old new told was is = go told is more
+counts_more : (answers : List KeyAnswer) (position old new : ℕ) (answer : Bool) → old ≡ min (count_by (λ so. so) (without_positions answers)) (2 ^ 64 - 1) → new ≡ cond answer (min (old + 1) (2 ^ 64 - 1)) old
+    → new ≡ min (count_by (λ so. so) (without_positions (answers ++ answer_at position answer ∷ []))) (2 ^ 64 - 1)
+counts_more answers position old new answer was is = go answer is more
   where
-    more : count_by (λ so. so) (told_of (answers ++ answer position told ∷ [])) ≡ count_by (λ so. so) (told_of answers) + cond told 1 0
-    more = ap (count_by (λ so. so)) (map_push (λ (a : Answer). a.told) answers (answer position told)) ∙ sum_by_push (λ (so : Bool). cond so 1 0) (told_of answers) told
+    more : count_by (λ so. so) (without_positions (answers ++ answer_at position answer ∷ [])) ≡ count_by (λ so. so) (without_positions answers) + cond answer 1 0
+    more = ap (count_by (λ so. so)) (map_push (λ (a : KeyAnswer). a.answer) answers (answer_at position answer)) ∙ sum_by_push (λ (so : Bool). cond so 1 0) (without_positions answers) answer
 
-    go : (b : Bool) → new ≡ cond b (min (old + 1) (2 ^ 64 - 1)) old → count_by (λ so. so) (told_of (answers ++ answer position told ∷ [])) ≡ count_by (λ so. so) (told_of answers) + cond b 1 0
-        → new ≡ min (count_by (λ so. so) (told_of (answers ++ answer position told ∷ []))) (2 ^ 64 - 1)
+    go : (b : Bool) → new ≡ cond b (min (old + 1) (2 ^ 64 - 1)) old → count_by (λ so. so) (without_positions (answers ++ answer_at position answer ∷ [])) ≡ count_by (λ so. so) (without_positions answers) + cond b 1 0
+        → new ≡ min (count_by (λ so. so) (without_positions (answers ++ answer_at position answer ∷ []))) (2 ^ 64 - 1)
     go true i m = omega (arith, was, i, m)
     go false i m = omega (arith, was, i, m)
 
@@ -116,7 +116,7 @@ module _ (z : Shape) (keys : List ℕ) (past : Past) (h then : Hand) (v next : V
       claimed_are = claims;
       done_are = done ∙ was.answered.done_are;
       counts = changed ∙ was.answered.counts;
-      marks = subst (λ (l : List Bool). (p : ℕ) → p < length l → (slice_index_or l p false ≡ true) ↔ Contains was.answers (answer p true)) (sym found) was.answered.marks;
+      marks = subst (λ (l : List Bool). (p : ℕ) → p < length l → (slice_index_or l p false ≡ true) ↔ Contains was.answers (answer_at p true)) (sym found) was.answered.marks;
     };
     opening = opening ∙ was.opening;
     long = ap length found ∙ was.long;
@@ -151,32 +151,32 @@ module _ (z : Shape) (keys : List ℕ) (past : Past) (h then : Hand) (v next : V
         (furthers (so_far v) among was.doing) opening
         (same_claimed z v next claims ∙ was.answered.claimed_are ∙ ap (λ (l : List ℕ). positions_of was.answers ++ l) (left ∙ sym leaves)) done changed found
 
-    pub stands_done : (told : Bool) → Furthers z h.kind key v next (Some told) → then.has_key ≡ false → then.done ≡ min (h.done + 1) (2 ^ 64 - 1) → then.changed ≡ cond told (min (h.changed + 1) (2 ^ 64 - 1)) h.changed
-        → then.found.items ≡ cond told (set h.found.items h.position true) h.found.items → HandStands z keys past then next
-    stands_done told furthers no_key done changed found = record {
+    pub stands_done : (answer : Bool) → Furthers z h.kind key v next (Some answer) → then.has_key ≡ false → then.done ≡ min (h.done + 1) (2 ^ 64 - 1) → then.changed ≡ cond answer (min (h.changed + 1) (2 ^ 64 - 1)) h.changed
+        → then.found.items ≡ cond answer (set h.found.items h.position true) h.found.items → HandStands z keys past then next
+    stands_done answer furthers no_key done changed found = record {
       kind_is = kind ∙ was.kind_is;
       answers = answers;
       doing = of_kind then.kind (progress_by keys past next answers) kind
           (subst (λ (l : List ℕ). ProgressInvariant z h.kind (record (progress_by keys past next answers) { done = l })) (sym keys_are)
-          (subst (λ (l : List Bool). ProgressInvariant z h.kind (record (furthered (so_far v) next key (Some told)) { told = l })) (sym (map_push (λ (a : Answer). a.told) was.answers (answer h.position told)))
+          (subst (λ (l : List Bool). ProgressInvariant z h.kind (record (furthered (so_far v) next key (Some answer)) { answers = l })) (sym (map_push (λ (a : KeyAnswer). a.answer) was.answers (answer_at h.position answer)))
           (furthers (so_far v) among was.doing)));
       answered = record {
-        claimed_are = same_claimed z v next claims ∙ was.answered.claimed_are ∙ ap (λ (l : List ℕ). positions_of was.answers ++ l) left ∙ sym (map_push (λ (a : Answer). a.position) was.answers (answer h.position told))
+        claimed_are = same_claimed z v next claims ∙ was.answered.claimed_are ∙ ap (λ (l : List ℕ). positions_of was.answers ++ l) left ∙ sym (map_push (λ (a : KeyAnswer). a.position) was.answers (answer_at h.position answer))
             ∙ sym (append-nil (positions_of answers)) ∙ ap (λ (b : Bool). positions_of answers ++ left_over b then.position) (sym no_key);
-        done_are = let m = length_push was.answers (answer h.position told) in let w = was.answered.done_are in omega (arith, m, w, done);
-        counts = counts_more was.answers h.position h.changed then.changed told was.answered.counts changed;
-        marks = subst (λ (l : List Bool). (p : ℕ) → p < length l → (slice_index_or l p false ≡ true) ↔ Contains answers (answer p true)) (sym found)
-            (λ p inside. let l : p < length h.found.items = let m = marked_long h.found.items h.position told in omega (arith, inside, m) in marks_more h.found.items was.answers h.position told p l (was.answered.marks p l));
+        done_are = let m = length_push was.answers (answer_at h.position answer) in let w = was.answered.done_are in omega (arith, m, w, done);
+        counts = counts_more was.answers h.position h.changed then.changed answer was.answered.counts changed;
+        marks = subst (λ (l : List Bool). (p : ℕ) → p < length l → (slice_index_or l p false ≡ true) ↔ Contains answers (answer_at p true)) (sym found)
+            (λ p inside. let l : p < length h.found.items = let m = marked_long h.found.items h.position answer in omega (arith, inside, m) in marks_more h.found.items was.answers h.position answer p l (was.answered.marks p l));
       };
       opening = opening ∙ was.opening;
-      long = ap length found ∙ marked_long h.found.items h.position told ∙ was.long;
+      long = ap length found ∙ marked_long h.found.items h.position answer ∙ was.long;
     }
       where
-        answers : List Answer
-        answers = was.answers ++ answer h.position told ∷ []
+        answers : List KeyAnswer
+        answers = was.answers ++ answer_at h.position answer ∷ []
 
         keys_are : keys_done keys answers ≡ keys_done keys was.answers ++ key ∷ []
-        keys_are = map_push (λ (a : Answer). slice_index keys a.position) was.answers (answer h.position told) ∙ ap (λ (k : ℕ). keys_done keys was.answers ++ k ∷ []) is
+        keys_are = map_push (λ (a : KeyAnswer). slice_index keys a.position) was.answers (answer_at h.position answer) ∙ ap (λ (k : ℕ). keys_done keys was.answers ++ k ∷ []) is
 
 -- ---- a claim
 

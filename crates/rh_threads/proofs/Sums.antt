@@ -52,13 +52,13 @@ count_in Insert t = t.added
 count_in Remove t = t.removed
 count_in Ask t = t.found
 
-pub count_sum : (kind : Kind) (told : ℕ → List Bool) (n : ℕ) → count_in kind (sum_of_all (λ v. counted kind (told v)) n) ≡ sum_below (λ v. how_many (told v)) n
-count_sum Insert told zero = refl
-count_sum Insert told (suc n) = ap (λ (m : ℕ). m + how_many (told n)) (count_sum Insert told n)
-count_sum Remove told zero = refl
-count_sum Remove told (suc n) = ap (λ (m : ℕ). m + how_many (told n)) (count_sum Remove told n)
-count_sum Ask told zero = refl
-count_sum Ask told (suc n) = ap (λ (m : ℕ). m + how_many (told n)) (count_sum Ask told n)
+pub count_sum : (kind : Kind) (answers : ℕ → List Bool) (n : ℕ) → count_in kind (sum_of_all (λ v. counted kind (answers v)) n) ≡ sum_below (λ v. how_many (answers v)) n
+count_sum Insert answers zero = refl
+count_sum Insert answers (suc n) = ap (λ (m : ℕ). m + how_many (answers n)) (count_sum Insert answers n)
+count_sum Remove answers zero = refl
+count_sum Remove answers (suc n) = ap (λ (m : ℕ). m + how_many (answers n)) (count_sum Remove answers n)
+count_sum Ask answers zero = refl
+count_sum Ask answers (suc n) = ap (λ (m : ℕ). m + how_many (answers n)) (count_sum Ask answers n)
 
 pub tally_is : (kind : Kind) (S : Keys) (keys : List ℕ) → tally_by kind (length keys) (count_in kind (tally_of kind S keys)) ≡ tally_of kind S keys
 tally_is Insert S keys = tally_of_insert S keys (tally_of Insert S keys).added (let a = added_len S keys in omega (arith, a))

@@ -90,10 +90,10 @@ HeedsInPhase allows workers (Ok x) = AllMayStart allows 0 workers
 HeedsInPhase allows workers (Err faults.Memory) = Unit {0}
 HeedsInPhase allows workers (Err (faults.Refused why)) = (1 < workers) × RefusedBy allows why
 
--- what is told of it
-abbrev pub told_as : Fault → PhaseFault
-told_as faults.Memory = Memory
-told_as (faults.Refused why) = NoThread
+-- as a fault of a phase
+abbrev pub phase_fault_of : Fault → PhaseFault
+phase_fault_of faults.Memory = Memory
+phase_fault_of (faults.Refused why) = NoThread
 
 -- how many starts were refused then, up to the greatest number
 abbrev pub refused_with : Fault → (before : ℕ) → ℕ

@@ -41,21 +41,21 @@ HasStopped z h v = IsFinished h ⊎ HasNoRoom z v
 
 -- ---- what it did
 
--- what was told of the key at a position of the list
-pub record Answer : Type 0 where
+-- the answer of the key at a position of the list
+pub record KeyAnswer : Type 0 where
   pub position : ℕ
-  pub told : Bool
+  pub answer : Bool
 
-abbrev pub answer : (position : ℕ) (told : Bool) → Answer
-answer p so = record { position = p; told = so }
+abbrev pub answer_at : (position : ℕ) (answer : Bool) → KeyAnswer
+answer_at p so = record { position = p; answer = so }
 
-abbrev pub positions_of : List Answer → List ℕ
+abbrev pub positions_of : List KeyAnswer → List ℕ
 positions_of answers = map (λ a. a.position) answers
 
-abbrev pub told_of : List Answer → List Bool
-told_of answers = map (λ a. a.told) answers
+abbrev pub without_positions : List KeyAnswer → List Bool
+without_positions answers = map (λ a. a.answer) answers
 
-abbrev pub keys_done : (keys : List ℕ) → List Answer → List ℕ
+abbrev pub keys_done : (keys : List ℕ) → List KeyAnswer → List ℕ
 keys_done keys answers = map (λ a. slice_index keys a.position) answers
 
 -- the position of the key that it has to do
@@ -64,11 +64,11 @@ left_over has_key p = cond has_key (p ∷ []) []
 
 -- The positions that it claimed are those of its answers, in their order, and then that of the key that it has to do. It counts the
 -- answers, and those that are true, up to the greatest number, and has marked the positions of these.
-pub record Answered (z : Shape) (h : Hand) (v : View) (answers : List Answer) : Type 0 where
+pub record Answered (z : Shape) (h : Hand) (v : View) (answers : List KeyAnswer) : Type 0 where
   pub claimed_are : claimed z v ≡ positions_of answers ++ left_over h.has_key h.position
   pub done_are : h.done ≡ min (length answers) (2 ^ 64 - 1)
-  pub counts : h.changed ≡ min (how_many (told_of answers)) (2 ^ 64 - 1)
-  pub marks : (p : ℕ) → p < length h.found.items → (slice_index_or h.found.items p false ≡ true) ↔ Contains answers (answer p true)
+  pub counts : h.changed ≡ min (how_many (without_positions answers)) (2 ^ 64 - 1)
+  pub marks : (p : ℕ) → p < length h.found.items → (slice_index_or h.found.items p false ≡ true) ↔ Contains answers (answer_at p true)
 
 -- the kind of the phase, how many positions may be marked, and of the rounds before this one: the cells at their end, and
 -- what the worker did and read in them
@@ -80,14 +80,14 @@ pub record Past : Type 0 where
   pub reads : List Kept
 
 -- how far the worker has come with a list of keys, by these answers
-abbrev pub progress_by : (keys : List ℕ) → Past → View → List Answer → Progress
+abbrev pub progress_by : (keys : List ℕ) → Past → View → List KeyAnswer → Progress
 progress_by keys past v answers =
-    record { view = v; keys = keys; acts = past.acts; reads = past.reads; done = keys_done keys answers; told = told_of answers }
+    record { view = v; keys = keys; acts = past.acts; reads = past.reads; done = keys_done keys answers; answers = without_positions answers }
 
 -- The worker has come as far as its hand says.
 pub record HandStands (z : Shape) (keys : List ℕ) (past : Past) (h : Hand) (v : View) : Type 0 where
   pub kind_is : h.kind ≡ past.kind
-  pub answers : List Answer
+  pub answers : List KeyAnswer
   pub doing : ProgressInvariant z h.kind (progress_by keys past v answers)
   pub answered : Answered z h v answers
   pub opening : v.opening ≡ past.opening

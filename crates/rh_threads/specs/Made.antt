@@ -81,8 +81,8 @@ pub record IsWorkedOut (ph : Setting) (t : Table) (c : Crew) : Type 0 where
   pub comes : Comes (at_table t ph.keys ph) (views_of c.seat) c.hands
 
 -- The new cells are the one layout of the old ones' set after the keys, and this is the tally of one worker.
-pub record HasChanged (p : Phase) (old new : List ℕ) (told : Tally) : Type 0 where
+pub record HasChanged (p : Phase) (old new : List ℕ) (total : Tally) : Type 0 where
   pub layout : IsLayout p.shape.bits new
   pub keys_are : keys_of new ≡ set_after p.kind (keys_of old) p.keys.now
   pub cells_are : AreTheCells p.shape.bits (set_after p.kind (keys_of old) p.keys.now) new
-  pub tally : told ≡ tally_of p.kind (keys_of old) p.keys.now
+  pub tally : total ≡ tally_of p.kind (keys_of old) p.keys.now

@@ -28,8 +28,8 @@ abbrev pub at_table : Table → (keys : List ℕ) → Setting → Setting
 at_table t keys ph = record ph { shape = t.shape; keys = keys }
 
 -- its run, where each worker has the list
-abbrev pub run_of : Setting → (words : List ℕ) (keep : ℕ → View) (done : ℕ → List ℕ) (told : ℕ → List Bool) → Run
-run_of ph words keep done told = record {
+abbrev pub run_of : Setting → (words : List ℕ) (keep : ℕ → View) (done : ℕ → List ℕ) (answers : ℕ → List Bool) → Run
+run_of ph words keep done answers = record {
   kind = ph.kind;
   shape = ph.shape;
   opening = ph.opening;
@@ -37,7 +37,7 @@ run_of ph words keep done told = record {
   keep = keep;
   keys = λ v. ph.keys;
   done = done;
-  told = told;
+  answers = answers;
 }
 
 -- what a run has of its rounds before this one
@@ -49,8 +49,8 @@ pub record Comes (ph : Setting) (vs : List Sitter) (hs : List Hand) : Type 0 whe
   pub words : List ℕ
   pub keep : ℕ → View
   pub done : ℕ → List ℕ
-  pub told : ℕ → List Bool
-  pub run : RunInvariant (run_of ph words keep done told)
+  pub answers : ℕ → List Bool
+  pub run : RunInvariant (run_of ph words keep done answers)
   pub stands : AllStand ph.shape ph.keys (past_of ph.positions run) vs hs
 
 -- all workers of the table are at rest; they have done all keys that they claimed, and found the end of the list

@@ -38,9 +38,9 @@ pub(crate) fn do_keys<R: Wait, G: Gate>(
             key: keys[hand.position],
         };
         match task.do_in_buffer(seat, &mut hand.buffer) {
-            Some(told) => {
-                gate.after(table, seat, table.shape.bits, task.kind, task.key, told);
-                hand.count(told);
+            Some(answer) => {
+                gate.after(table, seat, table.shape.bits, task.kind, task.key, answer);
+                hand.count(answer);
             }
             None => return,
         }

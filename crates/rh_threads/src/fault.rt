@@ -35,9 +35,9 @@ impl From<RefusedStart> for Fault {
 
 impl From<Fault> for PhaseFault {
     ghost use Rattle.std.specs.Prelude.{◌≡◌};
-    ghost use Rattle.rh_threads.specs.Crew.{told_as};
+    ghost use Rattle.rh_threads.specs.Crew.{phase_fault_of};
 
-    ghost from_gives = { λ fault told. told ≡ told_as fault };
+    ghost from_gives = { λ fault made. made ≡ phase_fault_of fault };
 
     fn from(fault: Fault) -> PhaseFault {
         match fault {

@@ -11,7 +11,7 @@ pub trait Gate {
     /// in this phase. (A key that a later round begins anew is told of once.)
     fn before(&self, worker: usize, done: usize);
 
-    /// The worker that has this seat at the table has done this key, and was told this of it.
+    /// The worker that has this seat at the table has done this key, with this answer.
     fn after(&self, table: &Table, seat: &Seat, bits: u32, kind: Kind, key: u64, answer: bool)
         requires { HasDone table.now seat.now bits kind key answer };
 }

@@ -17,10 +17,9 @@ pub(crate) struct Hand {
     pub ended: bool,
     /// How many keys it has done, up to the greatest number.
     pub done: usize,
-    /// Of how many of these it was told that they were added, removed or found, up to the greatest
-    /// number.
+    /// How many of these were added, removed or found, up to the greatest number.
     pub changed: u64,
-    /// Which positions have a key that it was told so of. It is empty where no one asks for them.
+    /// Which positions have a key that was found. It is empty where no one asks for them.
     /// Each worker has its own, and they are joined at the end: no two threads write one list.
     pub found: Vec<bool>,
 }
@@ -37,20 +36,20 @@ impl Hand {
     }
 
     /// Counts its key as done.
-    pub(crate) fn count(&mut self, told: bool)
+    pub(crate) fn count(&mut self, answer: bool)
         ensures kind { self.new.kind ≡ self.old.kind }
         ensures buffer { self.new.buffer ≡ self.old.buffer }
         ensures no_key { self.new.has_key ≡ false }
         ensures ended { self.new.ended ≡ self.old.ended }
         ensures done { self.new.done ≡ min (self.old.done + 1) (2 ^ 64 - 1) }
         ensures changed { self.new.changed ≡
-            cond told (min (self.old.changed + 1) (2 ^ 64 - 1)) self.old.changed }
+            cond answer (min (self.old.changed + 1) (2 ^ 64 - 1)) self.old.changed }
         ensures found { self.new.found.items ≡
-            cond told (set self.old.found.items self.old.position true) self.old.found.items }
+            cond answer (set self.old.found.items self.old.position true) self.old.found.items }
     {
         self.has_key = false;
         self.done = self.done.saturating_add(1);
-        if told {
+        if answer {
             self.changed = self.changed.saturating_add(1);
             if let Some(found) = self.found.get_mut(self.position) {
                 *found = true;

@@ -43,8 +43,7 @@ fn new_hand(alloc: Global, shape: &Shape, kind: Kind, positions: usize) -> Resul
     })
 }
 
-/// Of how many keys the workers were told that they were added, removed or found, up to the
-/// greatest number.
+/// How many keys the workers added, removed or found, up to the greatest number.
 pub(crate) fn all_changed(hands: LinkedList<Hand>) -> u64
     ensures { result ≡ min (all_changed hands) (2 ^ 64 - 1) }
 {

@@ -68,7 +68,7 @@ impl<R: Wait> KeyTask<'_, R> {
     {
         for _ in self.rt.forever() {
             match self.try_in_buffer(seat, buffer) {
-                Tried::Done(told) => return Some(told),
+                Tried::Done(answer) => return Some(answer),
                 Tried::Spent => return None,
                 Tried::Again => {}
                 Tried::Longer => buffer.use_more(self.table.shape.bits),
@@ -104,7 +104,7 @@ impl<R: Wait> KeyTask<'_, R> {
         ensures tries { IsTriedSo self.now (length seen.old) seat.old seat.new result }
     {
         match self.scan(seat, seen, news, entries) {
-            Scanned::Done(told) => Tried::Done(told),
+            Scanned::Done(answer) => Tried::Done(answer),
             Scanned::Acts(plan) => match kcas(self.rt, self.table, seat, &entries[..plan.entries]) {
                 Outcome::Done => Tried::Done(plan.changes),
                 Outcome::Failed { .. } => Tried::Again,
@@ -150,7 +150,7 @@ impl<R: Wait> KeyTask<'_, R> {
             seen[count] = value;
             if may_decide(kind, bits, key, cell, value, is_placed) {
                 match decide(kind, bits, key, &seen[..count + 1], news, entries) {
-                    Decision::Done(told) => return Scanned::Done(told),
+                    Decision::Done(answer) => return Scanned::Done(answer),
                     Decision::Acts(plan) => return Scanned::Acts(plan),
                     Decision::More => is_placed = true,
                 }

@@ -1,7 +1,7 @@
 //! Phases of scripts, each by several workers.
 
 ghost use Rattle.std.specs.Prelude.{◌≡◌};
-ghost use Rattle.rh_threads.specs.Crew.{refused_with, told_as};
+ghost use Rattle.rh_threads.specs.Crew.{refused_with, phase_fault_of};
 ghost use Rattle.rh_threads.specs.Made.{IsWorkers};
 
 use crate::crew::AllStart;
@@ -42,7 +42,7 @@ impl Threads {
     /// What is told of the fault. A start that was refused is counted.
     fn phase_fault(&mut self, fault: Fault) -> PhaseFault
         ensures workers { self.new.workers ≡ self.old.workers }
-        ensures told { result ≡ told_as fault }
+        ensures made { result ≡ phase_fault_of fault }
         ensures counted { self.new.refused_starts ≡ refused_with fault self.old.refused_starts }
     {
         if let Fault::Refused(_) = fault {

@@ -18,14 +18,14 @@ use std::alloc::AllocError;
 pub fn push_step(out: &mut Vec<u8>, step: &Traced) -> Result<(), AllocError>
     ensures { Prints out.old.items out.new.items (step_line step.now) result }
 {
-    push_told(out, step, b"\n")
+    push_line(out, step, b"\n")
 }
 
 /// The same with no line feed.
 pub fn push_step_text(out: &mut Vec<u8>, step: &Traced) -> Result<(), AllocError>
     ensures { Prints out.old.items out.new.items (step_text step.now) result }
 {
-    push_told(out, step, b"")
+    push_line(out, step, b"")
 }
 
 /// What a word of this part says.
@@ -42,7 +42,7 @@ pub fn push_word(out: &mut Vec<u8>, part: Part, word: u64) -> Result<(), AllocEr
     push_texts(out, &[before, first, between, second, after])
 }
 
-fn push_told(out: &mut Vec<u8>, step: &Traced, end: &'static [u8]) -> Result<(), AllocError>
+fn push_line(out: &mut Vec<u8>, step: &Traced, end: &'static [u8]) -> Result<(), AllocError>
     ensures { Prints out.old.items out.new.items (step_text step.now ++ end.entry.now) result }
 {
     let Traced {

@@ -12,7 +12,7 @@ use Rattle.rh_world.specs.Sides.{Side}
 use Rattle.rh_words.specs.declared.shape.Shape.{Shape}
 use Rattle.rh_words.specs.View.{View, new_view}
 use Rattle.rh_rule.specs.Core.{Core}
-use Rattle.rh_rule.specs.Rest.{Told}
+use Rattle.rh_rule.specs.Rest.{WorldTells}
 use Rattle.rh_rule.proofs.Telling.{tells}
 use Rattle.rh_order.specs.Claimed.{claimed}
 use Rattle.rh_order.proofs.Sharing.{from, rising}
@@ -112,11 +112,11 @@ module _ (z : Shape) (kind : Kind) (keys words : List ℕ) (hands : List Hand) (
   inside : (v : ℕ) → v < z.workers → v < length hands
   inside v mine = omega (arith, mine, size)
 
-  told : Told w z (at_hand view_of (new_view [] 0) hands) core.side
-  told = tells w z words (at_hand view_of (new_view [] 0) hands) core
+  world_tells : WorldTells w z (at_hand view_of (new_view [] 0) hands) core.side
+  world_tells = tells w z words (at_hand view_of (new_view [] 0) hands) core
 
   claims_are : (v : ℕ) → v < z.workers → (view_of (hand v)).side.claims ≡ (core.side v).claims
-  claims_are v mine = ap (λ (x : View). x.side.claims) (sym (at_hand_is view_of (new_view [] 0) hands v d (inside v mine))) ∙ ap (λ (s : Side). s.claims) (told.kept v mine)
+  claims_are v mine = ap (λ (x : View). x.side.claims) (sym (at_hand_is view_of (new_view [] 0) hands v d (inside v mine))) ∙ ap (λ (s : Side). s.claims) (world_tells.kept v mine)
 
   module _ (are : ArePieces 0 (shares_of hands) (length keys)) where
     of_piece : (v i : ℕ) → v < z.workers → i < length (positions z (hand v)) → (get_or (positions z (hand v)) i 0 ≡ first_of (hand v).share + i) × (first_of (hand v).share + i < end_of (hand v).share)
@@ -144,7 +144,7 @@ module _ (z : Shape) (kind : Kind) (keys words : List ℕ) (hands : List Hand) (
     claims_once v i j mine li lj e =
         let a = of_claims v i mine li in
         let b = of_claims v j mine lj in
-        let falls = subst IsFalling (sym (claims_are v mine)) (told.shared.once v) in
+        let falls = subst IsFalling (sym (claims_are v mine)) (world_tells.shared.once v) in
         rise_once (claimed z (view_of (hand v))) (rising (λ n. nat_lt n z.keys) (view_of (hand v)).side.claims falls) i j a.1 b.1 (sym a.0 ∙ e ∙ b.0)
 
     it_claims : (v i : ℕ) → v < z.workers → i < length (positions z (hand v)) → In (get_or (positions z (hand v)) i 0) (core.side v).claims
@@ -155,7 +155,7 @@ module _ (z : Shape) (kind : Kind) (keys words : List ℕ) (hands : List Hand) (
         (from (λ n. nat_lt n z.keys) (view_of (hand v)).side.claims (get_or (claimed z (view_of (hand v))) i 0) (Contains-get_or (claimed z (view_of (hand v))) i 0 a.1)).0)
 
     claims_apart : (u v i j : ℕ) → u < z.workers → v < z.workers → i < length (positions z (hand u)) → j < length (positions z (hand v)) → get_or (positions z (hand u)) i 0 ≡ get_or (positions z (hand v)) j 0 → u ≡ v
-    claims_apart u v i j yours mine li lj e = told.shared.one_worker u v (get_or (positions z (hand u)) i 0) (it_claims u i yours li) (subst (λ (n : ℕ). In n (core.side v).claims) (sym e) (it_claims v j mine lj))
+    claims_apart u v i j yours mine li lj e = world_tells.shared.one_worker u v (get_or (positions z (hand u)) i 0) (it_claims u i yours li) (subst (λ (n : ℕ). In n (core.side v).claims) (sym e) (it_claims v j mine lj))
 
   module _ (dealt : ArePieces 0 (shares_of hands) (length keys) ⊎ All IsClaiming hands) where
     once : (v i j : ℕ) → v < z.workers → i < length (positions z (hand v)) → j < length (positions z (hand v)) → get_or (positions z (hand v)) i 0 ≡ get_or (positions z (hand v)) j 0 → i ≡ j

@@ -29,7 +29,7 @@ use Rattle.rh_turns.specs.Laws.{EndsWith}
 use Rattle.rh_turns.proofs.AtHands.{at_hand_is}
 use Rattle.rh_turns.proofs.Apart.{IsPiece, end_of, first_of, piece_at, up_to}
 use Rattle.rh_turns.proofs.Playing.{hand_of, in_hands, plays_stopped, some_hand}
-use Rattle.rh_turns.proofs.Telling.{plays_tells, told_size}
+use Rattle.rh_turns.proofs.Telling.{plays_tells, answers_size}
 
 -- ---- the pieces together
 
@@ -127,11 +127,11 @@ module _ (g : Game) (plays : Plays g) (finished : AllFinished g) where
   ended : (v : ℕ) → v < z.workers → IsIdle (hand v) × IsAtEnd (hand v).share (hand v).done
   ended v mine = finished v (some_hand g plays) (in_hands g plays v mine)
 
-  -- each worker counts its keys as it was told of them
-  tally_is : {list : List ℕ} → FinalSpec (run_of g plays.told) S list → sum_of_all (λ v. tally_by g.kind (length (positions_at g v)) (changed_at g v)) z.workers ≡ tally_of g.kind S list
+  -- each worker counts its keys by their answers
+  tally_is : {list : List ℕ} → FinalSpec (run_of g plays.own_answers) S list → sum_of_all (λ v. tally_by g.kind (length (positions_at g v)) (changed_at g v)) z.workers ≡ tally_of g.kind S list
   tally_is ends =
-      same_sums (λ v. tally_by g.kind (length (positions_at g v)) (changed_at g v)) (λ v. counted g.kind (plays.told v)) z.workers
-      (λ v mine i. tally_by g.kind (sym (told_size g plays v mine) i) (plays.changed v mine i)) ∙ ends.tally
+      same_sums (λ v. tally_by g.kind (length (positions_at g v)) (changed_at g v)) (λ v. counted g.kind (plays.own_answers v)) z.workers
+      (λ v mine i. tally_by g.kind (sym (answers_size g plays v mine) i) (plays.changed v mine i)) ∙ ends.tally
 
   -- an answer is that of its key
   answer_is : g.kind ≡ Ask → (p : ℕ) → p < length g.keys → IsDoneAt g p → slice_index_or g.answers p None ≡ Some (slice_index_or (looked_up S g.keys) p false)
@@ -157,8 +157,8 @@ module _ (g : Game) (plays : Plays g) (finished : AllFinished g) where
     joined_is : joined pieces ≡ g.keys
     joined_is = pieces_are g.keys g.hands are
 
-    by_pieces : FinalSpec (run_of g plays.told) S (joined pieces)
-    by_pieces = run_ends (run_of g plays.told) S pieces plays.running rest plays.opening
+    by_pieces : FinalSpec (run_of g plays.own_answers) S (joined pieces)
+    by_pieces = run_ends (run_of g plays.own_answers) S pieces plays.running rest plays.opening
         (length-map g.hands (keys_for g.keys) ∙ plays.workers) all_done (subst (λ (l : List ℕ). LeavesRoom g.kind z.bits S l) (sym joined_is) plays.room)
 
     answers_pieces : g.kind ≡ Ask → (p : ℕ) → p < length g.keys → slice_index_or g.answers p None ≡ Some (slice_index_or (looked_up S g.keys) p false)
@@ -177,7 +177,7 @@ module _ (g : Game) (plays : Plays g) (finished : AllFinished g) where
 
     ends_pieces : EndsWith g
     ends_pieces = record {
-      now = held_now (run_of g plays.told) plays.running rest;
+      now = held_now (run_of g plays.own_answers) plays.running rest;
       layout = subst (λ (l : List ℕ). Layout (cells_held z g.words) z.bits (set_after g.kind S l)) joined_is by_pieces.layout;
       tally = tally_is by_pieces ∙ ap (tally_of g.kind S) joined_is;
       answers = answers_pieces;
@@ -203,8 +203,8 @@ module _ (g : Game) (plays : Plays g) (finished : AllFinished g) where
     all_claimed_done : (v : ℕ) → v < z.workers → done_at g v ≡ map (slice_index g.keys) (claimed z (keep g v))
     all_claimed_done v mine = at_v (done_keys z g.keys) [] v mine ∙ ap (map (slice_index g.keys)) ((of_claims v mine).0 ∙ ap (claimed z) (sym (kept_is v mine)))
 
-    by_claims : FinalSpec (run_of g plays.told) S g.keys
-    by_claims = run_shared_ends (run_of g plays.told) S g.keys plays.running rest plays.opening
+    by_claims : FinalSpec (run_of g plays.own_answers) S g.keys
+    by_claims = run_shared_ends (run_of g plays.own_answers) S g.keys plays.running rest plays.opening
         (sym (of_claims 0 g.shape.some_worker).3) found all_claimed_done plays.room
 
     answers_claims : g.kind ≡ Ask → (p : ℕ) → p < length g.keys → slice_index_or g.answers p None ≡ Some (slice_index_or (looked_up S g.keys) p false)
@@ -223,7 +223,7 @@ module _ (g : Game) (plays : Plays g) (finished : AllFinished g) where
 
     ends_claims : EndsWith g
     ends_claims = record {
-      now = held_now (run_of g plays.told) plays.running rest;
+      now = held_now (run_of g plays.own_answers) plays.running rest;
       layout = by_claims.layout;
       tally = tally_is by_claims;
       answers = answers_claims;

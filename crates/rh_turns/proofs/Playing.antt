@@ -25,7 +25,7 @@ use Rattle.rh_carrier.specs.Relies.{Relies, Serves, Shows}
 use Rattle.rh_carrier.proofs.Relying.{workers_may_rely}
 use Rattle.rh_carrier.specs.Own.{IsClear}
 use Rattle.rh_worker.specs.Worker.{IsWorker, Stays}
-use Rattle.rh_worker.specs.declared.stage.Stage.{Stage}
+use Rattle.rh_worker.specs.declared.stage.KeyStage.{KeyStage}
 use Rattle.rh_order.specs.Claimed.{claimed}
 use Rattle.rh_order.proofs.Saying.{logical_words, words_lead_inside}
 use Rattle.rh_order.proofs.Standing.{run_moment}
@@ -99,8 +99,8 @@ next_among keys (Claims last ended) done next within = Contains-get_or keys last
 -- ---- a worker that stopped
 
 module _ (z : Shape) (h : Hand) (worker : IsWorker z h.worker) where
-  stays_at : (p : Stage) → h.worker.stage ≡ p → Stays z (view_of h) h.worker.kind h.worker.key h.worker.buffer h.worker.machine p
-  stays_at p e = subst (λ (q : Stage). Stays z (view_of h) h.worker.kind h.worker.key h.worker.buffer h.worker.machine q) e worker.stays
+  stays_at : (p : KeyStage) → h.worker.stage ≡ p → Stays z (view_of h) h.worker.kind h.worker.key h.worker.buffer h.worker.machine p
+  stays_at p e = subst (λ (q : KeyStage). Stays z (view_of h) h.worker.kind h.worker.key h.worker.buffer h.worker.machine q) e worker.stays
 
   stopped_clear : IsFinished h ⊎ IsSpent h → IsClear (view_of h)
   stopped_clear o = ⊎_elim (λ (f : IsFinished h). stays_at _ f.0) (λ (s : IsSpent h). (stays_at _ s).0) o
@@ -154,8 +154,8 @@ module _ (g : Game) (plays : Plays g) where
   pub falling : (v : ℕ) → v < z.workers → IsFalling (keep g v).side.claims
   falling v mine =
       let run = plays.running in
-      let told = tells run.world z g.words (keep g) run.core in
-      subst IsFalling (sym (ap (λ (s : Side). s.claims) (told.kept v mine))) (told.shared.once v)
+      let world_tells = tells run.world z g.words (keep g) run.core in
+      subst IsFalling (sym (ap (λ (s : Side). s.claims) (world_tells.kept v mine))) (world_tells.shared.once v)
 
   pub plays_sized : length g.words ≡ word_count z
   plays_sized = plays.running.core.represents.sized
@@ -203,5 +203,5 @@ module _ (g : Game) (plays : Plays g) where
       (subst (λ (l : List ℕ). Contains l k) (at_hand_is (keys_for g.keys) [] g.hands v some_hand (in_hands v mine)) has)
 
   -- at each moment the cells stand for the layout of the set after some of the keys
-  pub plays_moment : MomentSpec (run_of g plays.told) (keys_of g.opening) plays.running.before (history plays.running.world)
-  plays_moment = run_moment (run_of g plays.told) (keys_of g.opening) g.keys plays.running plays.opening keys_among plays.room
+  pub plays_moment : MomentSpec (run_of g plays.own_answers) (keys_of g.opening) plays.running.before (history plays.running.world)
+  plays_moment = run_moment (run_of g plays.own_answers) (keys_of g.opening) g.keys plays.running plays.opening keys_among plays.room

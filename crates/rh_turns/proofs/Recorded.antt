@@ -62,7 +62,7 @@ module _ (last : Option Touched) (z : Shape) (keys : List ℕ) (m next : Moment)
     gives_up = s.gives_up;
     share = s.share;
     counts = s.counts;
-    told_is = s.told_is;
+    answers_are = s.answers_are;
   }
 
   claims_on : ClaimsBy (Records last) z m next → ClaimsBy StepsTo z m next
@@ -73,7 +73,7 @@ module _ (last : Option Touched) (z : Shape) (keys : List ℕ) (m next : Moment)
     steps = c.steps.steps;
     claiming = c.claiming;
     counts = c.counts;
-    told_is = c.told_is;
+    answers_are = c.answers_are;
   }
 
   pub recorded_turn : (turn : Turn) → TurnsBy (Records last) z keys m turn next → TurnsOn z keys m turn next

@@ -8,8 +8,8 @@ use Rattle.rh_words.specs.declared.shape.Shape.{Shape}
 use Rattle.rh_words.specs.Parts.{cell_count}
 use Rattle.rh_words.specs.View.{View, new_view, round_view}
 use Rattle.rh_worker.specs.Worker.{IsBusy}
-use Rattle.rh_worker.specs.declared.stage.Stage.{Stage}
-use Rattle.rh_worker.specs.declared.stage.Stage.TheVariants as stage
+use Rattle.rh_worker.specs.declared.stage.KeyStage.{KeyStage}
+use Rattle.rh_worker.specs.declared.stage.KeyStage.TheVariants as stage
 use Rattle.rh_order.specs.Claimed.{claimed}
 use Rattle.rh_order.specs.Laws.{AreAlike}
 use Rattle.rh_order.specs.Run.{Run, RunInvariant}
@@ -28,7 +28,7 @@ use Rattle.rh_turns.proofs.Turned.{same_claims}
 
 -- ---- one worker
 
-idle_not_spent : (p : Stage) → p ≡ stage.Idle → p ≡ stage.Spent → ⊥
+idle_not_spent : (p : KeyStage) → p ≡ stage.Idle → p ≡ stage.Spent → ⊥
 idle_not_spent p idle spent = cc
 
 module _ (z : Shape) (kind : Kind) (keys cells : List ℕ) (h next : Hand) (begins : HandBegins z cells h next) where
@@ -125,7 +125,7 @@ module _ (g : Game) (plays : Plays g) (stopped : AllStopped g) (then cells : Lis
 
   -- the run after the wipe
   abbrev after : Run
-  after = record (run_of g plays.told) { words = then; keep = λ v. round_view cells (keep g v) }
+  after = record (run_of g plays.own_answers) { words = then; keep = λ v. round_view cells (keep g v) }
 
   alike : (v : ℕ) → v < z.workers → AreAlike after (record after { keep = keep game; keys = keys_at game; done = done_at game }) v
   alike v mine = record {
@@ -133,12 +133,12 @@ module _ (g : Game) (plays : Plays g) (stopped : AllStopped g) (then cells : Lis
     keys_are = was (keys_for g.keys) [] v mine ∙ ap (share_keys g.keys) (sym (of v mine).share) ∙ now (keys_for g.keys) [] v mine;
     done_are = was (done_keys z g.keys) [] v mine
         ∙ ap (map (slice_index g.keys)) (sym (positions_same z g.kind g.keys cells (get_or g.hands v d) (get_or hands v d) (of v mine))) ∙ now (done_keys z g.keys) [] v mine;
-    told_are = refl;
+    answers_are = refl;
   }
 
-  running : RunInvariant (run_of game plays.told)
-  running = runs_alike after (keep game) (keys_at game) (done_at game) plays.told alike
-      (run_rounds (run_of g plays.told) then cells (plays_stopped g plays stopped) same wiped plays.running)
+  running : RunInvariant (run_of game plays.own_answers)
+  running = runs_alike after (keep game) (keys_at game) (done_at game) plays.own_answers alike
+      (run_rounds (run_of g plays.own_answers) then cells (plays_stopped g plays stopped) same wiped plays.running)
 
   share_same : (v : ℕ) (e : Hand) → v < length g.hands → (get_or hands v e).share ≡ (get_or g.hands v e).share
   share_same v e l = (begins v e l).share
@@ -160,7 +160,7 @@ module _ (g : Game) (plays : Plays g) (stopped : AllStopped g) (then cells : Lis
         let here : v < length g.hands = omega (arith, l, size) in
         hand_begins z g.kind g.keys cells (get_or g.hands v d) (get_or hands v d) (begins v d here) (stopped v d here) (plays.hands v d here));
     dealt = dealt;
-    told = plays.told;
+    own_answers = plays.own_answers;
     running = running;
     changed = λ v mine. sym (now (λ h. h.changed) 0 v mine) ∙ (of v mine).changed ∙ sym (was (λ h. h.changed) 0 v mine) ∙ plays.changed v mine;
     answered = λ v j mine l. ap (λ (at : List ℕ). slice_index_or g.answers (slice_index at j) None) (sym (positions_are v mine)) ∙ plays.answered v j mine l;

@@ -97,7 +97,7 @@ module _ (g : Game) (starts : GameStarts g) where
         kept = sym new.view ∙ sym (at_v view_of (new_view [] 0) v mine);
         keys_are = refl;
         done_are = none_done (get_or g.hands v d) new.done ∙ sym (at_v (done_keys z g.keys) [] v mine);
-        told_are = refl;
+        answers_are = refl;
       }
 
   running : RunInvariant (run_of g (λ v. []))
@@ -117,7 +117,7 @@ module _ (g : Game) (starts : GameStarts g) where
     answers = ap length starts.answers ∙ length-replicate (length g.keys) None;
     hands = λ k e l. hand_is k e (omega (arith, l, starts.workers));
     dealt = dealt;
-    told = λ v. [];
+    own_answers = λ v. [];
     running = running;
     changed = λ v mine. at_v (λ h. h.changed) 0 v mine ∙ (starts.hands v d mine).changed;
     answered = λ v j mine l. absurd (omega (arith, l));

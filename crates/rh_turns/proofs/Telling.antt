@@ -1,4 +1,4 @@
--- What is counted and told of the keys that are done, at each moment.
+-- What is counted and answered of the keys that are done, at each moment.
 use Rattle.std.proofs.Common.{◌≡◌, ◌≢◌, ℕ, zero, suc, ◌+◌, ◌<◌, ◌≤◌, ◌⊎◌, inl, inr, ⊎_elim, sym, ap, ◌∙◌, subst, arith, Bool, false, Some, None, List, [], ◌∷◌, length, map, get_or}
 use Rattle.std.specs.Prelude.{slice_index, slice_index_or}
 use Rattle.std.specs.FinSet.{contains}
@@ -9,7 +9,7 @@ use Rattle.rh_layout.specs.Layout.{Keys, keys_of}
 use Rattle.rh_ledger.specs.declared.tally.Kind.TheVariants.{Ask}
 use Rattle.rh_ledger.specs.Phase.{looked_up}
 use Rattle.rh_words.specs.declared.shape.Shape.{Shape}
-use Rattle.rh_acts.proofs.Told.{as_many_told}
+use Rattle.rh_acts.proofs.Changing.{as_many_answers}
 use Rattle.rh_order.specs.Claimed.{claimed}
 use Rattle.rh_order.proofs.Answering.{run_answers}
 use Rattle.rh_turns.specs.declared.hand.Hand.{Hand}
@@ -40,22 +40,22 @@ module _ (g : Game) (plays : Plays g) where
       at_hand_is (done_keys z g.keys) [] g.hands v d (in_hands g plays v mine)
       ∙ ap (map (slice_index g.keys)) (sym (at_hand_is (positions z) [] g.hands v d (in_hands g plays v mine)))
 
-  pub told_size : (v : ℕ) → v < z.workers → length (plays.told v) ≡ length (positions_at g v)
-  told_size v mine = as_many_told g.kind z.bits _ (done_at g v) _ (plays.told v) (plays.running.doing v mine).so_far ∙ ap length (done_are v mine) ∙ length-map (positions_at g v) (slice_index g.keys)
+  pub answers_size : (v : ℕ) → v < z.workers → length (plays.own_answers v) ≡ length (positions_at g v)
+  answers_size v mine = as_many_answers g.kind z.bits _ (done_at g v) _ (plays.own_answers v) (plays.running.doing v mine).so_far ∙ ap length (done_are v mine) ∙ length-map (positions_at g v) (slice_index g.keys)
 
   done_counted : (v : ℕ) (d : Hand) → v < z.workers → length (positions_at g v) ≡ (get_or g.hands v d).done
   done_counted v d mine =
       let h : Hand = get_or g.hands v d in
       ap length (at_hand_is (positions z) [] g.hands v d (in_hands g plays v mine)) ∙ positions_counted z g.keys h h.share (hand_of g plays v mine d).share
 
-  -- what was told of a key that was asked for
-  told_so : g.kind ≡ Ask → (v j : ℕ) → v < z.workers → j < length (positions_at g v)
+  -- the answer of a key that was asked for
+  answer_is : g.kind ≡ Ask → (v j : ℕ) → v < z.workers → j < length (positions_at g v)
       → slice_index_or g.answers (slice_index (positions_at g v) j) None ≡ Some (contains S (slice_index g.keys (slice_index (positions_at g v) j)))
-  told_so asks v j mine inside =
-      let size : length (plays.told v) ≡ length (positions_at g v) = told_size v mine in
+  answer_is asks v j mine inside =
+      let size : length (plays.own_answers v) ≡ length (positions_at g v) = answers_size v mine in
       let positions : List ℕ = positions_at g v in
       let long : length (map (slice_index g.keys) positions) ≡ length positions = length-map positions (slice_index g.keys) in
-      let answers = run_answers (run_of g plays.told) S plays.running plays.opening asks v mine ∙ ap (looked_up S) (done_are v mine) in
+      let answers = run_answers (run_of g plays.own_answers) S plays.running plays.opening asks v mine ∙ ap (looked_up S) (done_are v mine) in
       plays.answered v j mine (omega (arith, inside, size))
       ∙ ap Some (
       ap (λ (l : List Bool). slice_index_or l j false) answers
@@ -63,12 +63,12 @@ module _ (g : Game) (plays : Plays g) where
       ∙ ap (contains S) (get_or-map (slice_index g.keys) positions j 0 0 inside)
       )
 
-  told_at_position : g.kind ≡ Ask → (p : ℕ) → IsDoneAt g p → slice_index_or g.answers p None ≡ Some (contains S (slice_index g.keys p))
-  told_at_position asks p done =
-      subst (λ (q : ℕ). slice_index_or g.answers q None ≡ Some (contains S (slice_index g.keys q))) done.4 (told_so asks done.0 done.1 done.2 done.3)
+  answer_at_position : g.kind ≡ Ask → (p : ℕ) → IsDoneAt g p → slice_index_or g.answers p None ≡ Some (contains S (slice_index g.keys p))
+  answer_at_position asks p done =
+      subst (λ (q : ℕ). slice_index_or g.answers q None ≡ Some (contains S (slice_index g.keys q))) done.4 (answer_is asks done.0 done.1 done.2 done.3)
 
-  pub plays_tells : OutcomeSpec g plays.told
-  plays_tells = record { counts = done_counted; changed = plays.changed; stands = plays.answered; answers = told_at_position; unanswered = plays.unanswered }
+  pub plays_tells : OutcomeSpec g plays.own_answers
+  plays_tells = record { counts = done_counted; changed = plays.changed; stands = plays.answered; answers = answer_at_position; unanswered = plays.unanswered }
 
 -- ---- whether a key is done
 

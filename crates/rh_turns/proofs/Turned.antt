@@ -18,7 +18,7 @@ use Rattle.rh_words.specs.Steps.{Allowed, Step, StepsTo}
 use Rattle.rh_order.specs.Advance.{Advances}
 use Rattle.rh_order.specs.Claimed.{claimed}
 use Rattle.rh_order.specs.Laws.{AreAlike, also_done_by, stepped}
-use Rattle.rh_order.specs.Run.{Run, RunInvariant, also_done, also_told}
+use Rattle.rh_order.specs.Run.{Run, RunInvariant, also_done, also_answered}
 use Rattle.rh_order.proofs.Alike.{runs_alike}
 use Rattle.rh_order.proofs.Stepping.{run_claims, run_steps}
 use Rattle.rh_turns.specs.declared.hand.Hand.{Hand}
@@ -32,14 +32,14 @@ use Rattle.rh_turns.specs.Laws.{moment_of, turned}
 use Rattle.rh_turns.proofs.AtHands.{at_hand_is, at_hand_set}
 use Rattle.rh_turns.proofs.Apart.{apart, piece_at, piece_not_claims, pieces_set}
 use Rattle.rh_turns.proofs.Playing.{done_claimed, hand_of, in_hands, kept_at, next_among}
-use Rattle.rh_turns.proofs.Telling.{told_size}
+use Rattle.rh_turns.proofs.Telling.{answers_size}
 
 -- ---- the positions of its done keys
 
 -- one position more, where the key there is done
 abbrev also_at : List ℕ → (position : ℕ) → Option Bool → List ℕ
 also_at l position None = l
-also_at l position (Some told) = l ++ position ∷ []
+also_at l position (Some so) = l ++ position ∷ []
 
 -- of the first of the claimed positions none changes where one more is claimed
 first_stay : (z : Shape) (v next : View) (n : ℕ) → next.side.claims ≡ n ∷ v.side.claims → (m : ℕ) → m ≤ length (claimed z v) → take m (claimed z next) ≡ take m (claimed z v)
@@ -87,7 +87,7 @@ module _ (z : Shape) (keys : List ℕ) (h next : Hand) (claims : (view_of next).
     where
       go : (answer : Option Bool) → HasCounted h answer next → positions_of z h.share (view_of h) next.done ≡ also_at (positions z h) (position_now h) answer
       go None counts = ap (positions_of z h.share (view_of h)) counts.0
-      go (Some told) counts = ap (positions_of z h.share (view_of h)) counts.0 ∙ one_done h.share refl was (subst (IsShare z keys next) share now) counts.0
+      go (Some so) counts = ap (positions_of z h.share (view_of h)) counts.0 ∙ one_done h.share refl was (subst (IsShare z keys next) share now) counts.0
 
 keys_then : (z : Shape) (keys : List ℕ) (h next : Hand) (answer : Option Bool) → positions z next ≡ also_at (positions z h) (position_now h) answer
     → also_done (done_keys z keys h) (slice_index keys (position_now h)) answer ≡ done_keys z keys next
@@ -95,46 +95,46 @@ keys_then z keys h next answer is = go answer ∙ sym (ap (map (slice_index keys
   where
     go : (answer : Option Bool) → also_done (done_keys z keys h) (slice_index keys (position_now h)) answer ≡ map (slice_index keys) (also_at (positions z h) (position_now h) answer)
     go None = refl
-    go (Some told) = sym (map_push (slice_index keys) (positions z h) (position_now h))
+    go (Some so) = sym (map_push (slice_index keys) (positions z h) (position_now h))
 
--- ---- what it was told
+-- ---- its answers
 
-how_many_more : (told : List Bool) (so : Bool) → count_by (λ so. so) (told ++ so ∷ []) ≡ count_by (λ so. so) told + cond so 1 0
-how_many_more told so = sum_by_push (λ (so : Bool). cond so 1 0) told so
+how_many_more : (own_answers : List Bool) (so : Bool) → count_by (λ so. so) (own_answers ++ so ∷ []) ≡ count_by (λ so. so) own_answers + cond so 1 0
+how_many_more own_answers so = sum_by_push (λ (so : Bool). cond so 1 0) own_answers so
 
-counts_then : (h next : Hand) (told : List Bool) (answer : Option Bool) → HasCounted h answer next → h.changed ≡ count_by (λ so. so) told → next.changed ≡ count_by (λ so. so) (also_told told answer)
-counts_then h next told None counts was = counts.1 ∙ was
-counts_then h next told (Some so) counts was = counts.1 ∙ ap (λ (n : ℕ). n + cond so 1 0) was ∙ sym (how_many_more told so)
+counts_then : (h next : Hand) (own_answers : List Bool) (answer : Option Bool) → HasCounted h answer next → h.changed ≡ count_by (λ so. so) own_answers → next.changed ≡ count_by (λ so. so) (also_answered own_answers answer)
+counts_then h next own_answers None counts was = counts.1 ∙ was
+counts_then h next own_answers (Some so) counts was = counts.1 ∙ ap (λ (n : ℕ). n + cond so 1 0) was ∙ sym (how_many_more own_answers so)
 
 -- ---- the answers
 
--- at the position of the j-th done key stands what was told of it
-abbrev Stands : List (Option Bool) → (at : List ℕ) (told : List Bool) (j : ℕ) → Type 0
-Stands answers at told j = slice_index_or answers (slice_index at j) None ≡ Some (slice_index_or told j false)
+-- at the position of the j-th done key stands its answer
+abbrev Stands : List (Option Bool) → (at : List ℕ) (own_answers : List Bool) (j : ℕ) → Type 0
+Stands answers at own_answers j = slice_index_or answers (slice_index at j) None ≡ Some (slice_index_or own_answers j false)
 
 stands_so : (answers : List (Option Bool)) (l m : List ℕ) (t u : List Bool) (j : ℕ) → l ≡ m → t ≡ u → (j < length u → Stands answers m u j) → j < length t → Stands answers l t j
-stands_so answers l m t u j positions told so inside =
-    (λ i. slice_index_or answers (slice_index (positions i) j) None) ∙ so (subst (λ (x : List Bool). j < length x) told inside) ∙ sym (λ i. Some (slice_index_or (told i) j false))
+stands_so answers l m t u j positions own_answers so inside =
+    (λ i. slice_index_or answers (slice_index (positions i) j) None) ∙ so (subst (λ (x : List Bool). j < length x) own_answers inside) ∙ sym (λ i. Some (slice_index_or (own_answers i) j false))
 
-stands_still : (answers : List (Option Bool)) (at : List ℕ) (told : List Bool) (position : ℕ) (so : Option Bool) (j : ℕ) → slice_index at j ≢ position → Stands answers at told j → Stands (set answers position so) at told j
-stands_still answers at told position so j other was = get_or-set_other answers position (slice_index at j) so None other ∙ was
+stands_still : (answers : List (Option Bool)) (at : List ℕ) (own_answers : List Bool) (position : ℕ) (so : Option Bool) (j : ℕ) → slice_index at j ≢ position → Stands answers at own_answers j → Stands (set answers position so) at own_answers j
+stands_still answers at own_answers position so j other was = get_or-set_other answers position (slice_index at j) so None other ∙ was
 
-stands_more : (answers : List (Option Bool)) (at : List ℕ) (told : List Bool) (position : ℕ) (so : Bool) (j : ℕ) → length told ≡ length at → position < length answers
-    → (j < length told → Stands answers at told j) → (j < length told → slice_index at j ≢ position) → j < length (told ++ so ∷ [])
-    → Stands (set answers position (Some so)) (at ++ position ∷ []) (told ++ so ∷ []) j
-stands_more answers at told position so j size within was other inside =
-    let long : length (told ++ so ∷ []) ≡ length told + 1 = length_push told so in
+stands_more : (answers : List (Option Bool)) (at : List ℕ) (own_answers : List Bool) (position : ℕ) (so : Bool) (j : ℕ) → length own_answers ≡ length at → position < length answers
+    → (j < length own_answers → Stands answers at own_answers j) → (j < length own_answers → slice_index at j ≢ position) → j < length (own_answers ++ so ∷ [])
+    → Stands (set answers position (Some so)) (at ++ position ∷ []) (own_answers ++ so ∷ []) j
+stands_more answers at own_answers position so j size within was other inside =
+    let long : length (own_answers ++ so ∷ []) ≡ length own_answers + 1 = length_push own_answers so in
     ⊎_elim
-    (λ (l : j < length told).
+    (λ (l : j < length own_answers).
     let m : j < length at = omega (arith, l, size) in
     ap (λ (p : ℕ). slice_index_or (set answers position (Some so)) p None) (get_or_append_left at (position ∷ []) 0 j m)
-    ∙ stands_still answers at told position (Some so) j (other l) (was l)
-    ∙ ap (λ (b : Bool). Some b) (sym (get_or_append_left told (so ∷ []) false j l)))
-    (λ (m : length told ≤ j).
-    let e : length told ≡ j = omega (arith, m, inside, long) in
+    ∙ stands_still answers at own_answers position (Some so) j (other l) (was l)
+    ∙ ap (λ (b : Bool). Some b) (sym (get_or_append_left own_answers (so ∷ []) false j l)))
+    (λ (m : length own_answers ≤ j).
+    let e : length own_answers ≡ j = omega (arith, m, inside, long) in
     ap (λ (p : ℕ). slice_index_or (set answers position (Some so)) p None) (get_or_push at position 0 j (sym size ∙ e))
     ∙ get_or-set_same answers position (Some so) None within
-    ∙ ap (λ (b : Bool). Some b) (sym (get_or_push told so false j e))) (cases_lt j (length told))
+    ∙ ap (λ (b : Bool). Some b) (sym (get_or_push own_answers so false j e))) (cases_lt j (length own_answers))
 
 -- ---- the game
 
@@ -188,35 +188,35 @@ module _ (g : Game) (plays : Plays g) (who : ℕ) (mine : who < g.shape.workers)
   positions_else v ne = sym (at_then (positions z) [] v) ∙ updated_else (positions_at g) who v (positions z next) ne
 
   stand_then : (answer : Option Bool) → Fits answer → IsFresh answer → positions z next ≡ also_at (positions z h) (position_now h) answer → answers ≡ answered g.answers (position_now h) answer
-      → (v j : ℕ) → v < z.workers → j < length (updated plays.told who (also_told (plays.told who) answer) v)
-      → Stands answers (positions_at game v) (updated plays.told who (also_told (plays.told who) answer) v) j
+      → (v j : ℕ) → v < z.workers → j < length (updated plays.own_answers who (also_answered (plays.own_answers who) answer) v)
+      → Stands answers (positions_at game v) (updated plays.own_answers who (also_answered (plays.own_answers who) answer) v) j
   stand_then None fits fresh positions_are is_now v j l inside =
       let same : positions_at game v ≡ positions_at g v = sym (at_then (positions z) [] v) ∙ sym (same_as_was (positions_at g) who (positions z next) (at_who (positions z) [] ∙ sym positions_are) v) in
-      subst (λ (a : List (Option Bool)). Stands a (positions_at game v) (updated plays.told who (plays.told who) v) j) (sym is_now)
-      (stands_so g.answers (positions_at game v) (positions_at g v) (updated plays.told who (plays.told who) v) (plays.told v) j same (sym (same_as_was plays.told who (plays.told who) refl v)) (plays.answered v j l) inside)
+      subst (λ (a : List (Option Bool)). Stands a (positions_at game v) (updated plays.own_answers who (plays.own_answers who) v) j) (sym is_now)
+      (stands_so g.answers (positions_at game v) (positions_at g v) (updated plays.own_answers who (plays.own_answers who) v) (plays.own_answers v) j same (sym (same_as_was plays.own_answers who (plays.own_answers who) refl v)) (plays.answered v j l) inside)
   stand_then (Some so) fits fresh positions_are is_now v j l inside =
       let p : ℕ = position_now h in
       let within : p < length g.answers = omega (arith, fits, plays.answers) in
       let mine_at : positions_at g who ≡ positions z h = at_who (positions z) [] in
-      let more : List Bool = plays.told who ++ so ∷ [] in
-      subst (λ (a : List (Option Bool)). Stands a (positions_at game v) (updated plays.told who (plays.told who ++ so ∷ []) v) j) (sym is_now)
+      let more : List Bool = plays.own_answers who ++ so ∷ [] in
+      subst (λ (a : List (Option Bool)). Stands a (positions_at game v) (updated plays.own_answers who (plays.own_answers who ++ so ∷ []) v) j) (sym is_now)
       (⊎_elim
       (λ (e : v ≡ who).
       let here : positions_at game v ≡ positions_at g who ++ p ∷ [] = positions_here v e ∙ positions_are ∙ ap (λ (l : List ℕ). l ++ p ∷ []) (sym mine_at) in
-      let size : length (plays.told who) ≡ length (positions_at g who) = told_size g plays who mine in
+      let size : length (plays.own_answers who) ≡ length (positions_at g who) = answers_size g plays who mine in
       let long : length (positions_at game v) ≡ length (positions_at g who) + 1 = ap length here ∙ length_push (positions_at g who) p in
-      stands_so (set g.answers p (Some so)) (positions_at game v) (positions_at g who ++ p ∷ []) (updated plays.told who (plays.told who ++ so ∷ []) v) (plays.told who ++ so ∷ []) j here (updated_here plays.told who v (plays.told who ++ so ∷ []) e)
-      (stands_more g.answers (positions_at g who) (plays.told who) p so j size within (plays.answered who j mine)
-      (λ (m : j < length (plays.told who)) (same : slice_index (positions_at g who) j ≡ p).
+      stands_so (set g.answers p (Some so)) (positions_at game v) (positions_at g who ++ p ∷ []) (updated plays.own_answers who (plays.own_answers who ++ so ∷ []) v) (plays.own_answers who ++ so ∷ []) j here (updated_here plays.own_answers who v (plays.own_answers who ++ so ∷ []) e)
+      (stands_more g.answers (positions_at g who) (plays.own_answers who) p so j size within (plays.answered who j mine)
+      (λ (m : j < length (plays.own_answers who)) (same : slice_index (positions_at g who) j ≡ p).
       let last = (fresh v j l (omega (arith, m, size, long)) (ap (λ (l : List ℕ). get_or l j 0) here ∙ get_or_append_left (positions_at g who) (p ∷ []) 0 j (omega (arith, m, size)) ∙ same)).1 in
       let at_size : length (positions_at g who) ≡ length (positions z h) = ap length mine_at in
       absurd (omega (arith, last, m, size, at_size))))
       inside)
       (λ (ne : v ≢ who).
-      stands_so (set g.answers p (Some so)) (positions_at game v) (positions_at g v) (updated plays.told who (plays.told who ++ so ∷ []) v) (plays.told v) j (positions_else v ne) (updated_else plays.told who v (plays.told who ++ so ∷ []) ne)
-      (λ (m : j < length (plays.told v)).
-      let size : length (plays.told v) ≡ length (positions_at g v) = told_size g plays v l in
-      stands_still g.answers (positions_at g v) (plays.told v) p (Some so) j
+      stands_so (set g.answers p (Some so)) (positions_at game v) (positions_at g v) (updated plays.own_answers who (plays.own_answers who ++ so ∷ []) v) (plays.own_answers v) j (positions_else v ne) (updated_else plays.own_answers who v (plays.own_answers who ++ so ∷ []) ne)
+      (λ (m : j < length (plays.own_answers v)).
+      let size : length (plays.own_answers v) ≡ length (positions_at g v) = answers_size g plays v l in
+      stands_still g.answers (positions_at g v) (plays.own_answers v) p (Some so) j
       (λ (same : slice_index (positions_at g v) j ≡ p).
       let long : length (positions_at game v) ≡ length (positions_at g v) = ap length (positions_else v ne) in
       ne (sym (fresh v j l (omega (arith, m, size, long)) (ap (λ (l : List ℕ). get_or l j 0) (positions_else v ne) ∙ same)).0))
@@ -241,7 +241,7 @@ module _ (g : Game) (plays : Plays g) (who : ℕ) (mine : who < g.shape.workers)
       (v, j, done.2, subst (λ (at : List ℕ). j < length at) (sym same) done.3, ap (λ (at : List ℕ). get_or at j 0) same ∙ done.4))
       (cases_eq v who)
 
-  -- of a key that is not done nothing is told
+  -- a key that is not done has no answer
   open_then : (answer : Option Bool) → positions z next ≡ also_at (positions z h) (position_now h) answer → answers ≡ answered g.answers (position_now h) answer
       → (p : ℕ) → (IsDoneAt game p → ⊥) → slice_index_or answers p None ≡ None
   open_then None positions_are is_now p undone =
@@ -256,26 +256,26 @@ module _ (g : Game) (plays : Plays g) (who : ℕ) (mine : who < g.shape.workers)
       ∙ get_or-set_other g.answers at p (Some so) None (λ (e : p ≡ at). undone (who, n, mine, omega (arith, long), last ∙ sym e))
       ∙ plays.unanswered p (λ done. undone (done_then (at ∷ []) positions_are p done))
 
-  -- its keys, its done keys and what it was told
+  -- its keys, its done keys and its answers
   module _ (answer : Option Bool) (share : keys_for g.keys next ≡ keys_for g.keys h) (positions_are : positions z next ≡ also_at (positions z h) (position_now h) answer) (counts : HasCounted h answer next) (hand : IsHand z g.kind g.keys next) (dealt : IsDealt game) where
-    abbrev told : ℕ → List Bool
-    told = updated plays.told who (also_told (plays.told who) answer)
+    abbrev own_answers : ℕ → List Bool
+    own_answers = updated plays.own_answers who (also_answered (plays.own_answers who) answer)
 
     -- the run after the turn, worker by worker as it was but for this one
     abbrev after : Run
-    after = record (stepped (run_of g plays.told) then who (view_of next)) { done = updated (done_at g) who (done_keys z g.keys next); told = told }
+    after = record (stepped (run_of g plays.own_answers) then who (view_of next)) { done = updated (done_at g) who (done_keys z g.keys next); answers = own_answers }
 
     alike : (v : ℕ) → v < z.workers → AreAlike after (record after { keep = keep game; keys = keys_at game; done = done_at game }) v
     alike v l = record {
       kept = at_then view_of (new_view [] 0) v;
       keys_are = same_as_was (keys_at g) who (keys_for g.keys next) (at_who (keys_for g.keys) [] ∙ sym share) v ∙ at_then (keys_for g.keys) [] v;
       done_are = at_then (done_keys z g.keys) [] v;
-      told_are = refl;
+      answers_are = refl;
     }
 
     module _ (run : RunInvariant after) where
-      running : RunInvariant (run_of game told)
-      running = runs_alike after (keep game) (keys_at game) (done_at game) told alike run
+      running : RunInvariant (run_of game own_answers)
+      running = runs_alike after (keep game) (keys_at game) (done_at game) own_answers alike run
 
       size_then : length (set g.hands who next) ≡ z.workers
       size_then = length-set g.hands who next ∙ plays.workers
@@ -283,10 +283,10 @@ module _ (g : Game) (plays : Plays g) (who : ℕ) (mine : who < g.shape.workers)
       hands_then : All (IsHand z g.kind g.keys) (set g.hands who next)
       hands_then = All-set (IsHand z g.kind g.keys) g.hands who next hand plays.hands
 
-      changed_then : (v : ℕ) → v < z.workers → changed_at game v ≡ count_by (λ so. so) (told v)
+      changed_then : (v : ℕ) → v < z.workers → changed_at game v ≡ count_by (λ so. so) (own_answers v)
       changed_then v l = at_hand_set (λ x. x.changed) 0 g.hands who next is v ∙ ⊎_elim
-          (λ r. r.1 ∙ counts_then h next (plays.told who) answer counts (sym (at_who (λ x. x.changed) 0) ∙ plays.changed who mine) ∙ ap (λ (l : List Bool). count_by (λ so. so) l) (sym (updated_here plays.told who v (also_told (plays.told who) answer) r.0)))
-          (λ r. r.1 ∙ plays.changed v l ∙ ap (λ (l : List Bool). count_by (λ so. so) l) (sym (updated_else plays.told who v (also_told (plays.told who) answer) r.0)))
+          (λ r. r.1 ∙ counts_then h next (plays.own_answers who) answer counts (sym (at_who (λ x. x.changed) 0) ∙ plays.changed who mine) ∙ ap (λ (l : List Bool). count_by (λ so. so) l) (sym (updated_here plays.own_answers who v (also_answered (plays.own_answers who) answer) r.0)))
+          (λ r. r.1 ∙ plays.changed v l ∙ ap (λ (l : List Bool). count_by (λ so. so) l) (sym (updated_else plays.own_answers who v (also_answered (plays.own_answers who) answer) r.0)))
           (updated_at (changed_at g) who v next.changed)
 
       -- the position of the key is that of no other
@@ -311,7 +311,7 @@ module _ (g : Game) (plays : Plays g) (who : ℕ) (mine : who < g.shape.workers)
         answers = ap length is_now ∙ same_size answer ∙ plays.answers;
         hands = hands_then;
         dealt = dealt;
-        told = told;
+        own_answers = own_answers;
         running = running;
         changed = changed_then;
         answered = λ v j l inside. stand_then answer fits (fresh_then answer refl) positions_are is_now v j l inside;
@@ -329,15 +329,15 @@ module _ (g : Game) (plays : Plays g) (who : ℕ) (mine : who < g.shape.workers)
       let kept : view_of h ≡ keep g who = sym (kept_at g plays who mine d) in
       let positions_are : positions z next ≡ also_at (positions z h) (position_now h) s.done = positions_then z g.keys h next s.makes.claims s.done s.share was.share hand.share s.counts in
       let done : also_done (done_at g who) key s.done ≡ done_keys z g.keys next = ap (λ (l : List ℕ). also_done l key s.done) (at_who (done_keys z g.keys) []) ∙ keys_then z g.keys h next s.done positions_are in
-      let run = run_steps (run_of g plays.told) who s.makes.step s.makes.word then (view_of next) key s.done mine
+      let run = run_steps (run_of g plays.own_answers) who s.makes.step s.makes.word then (view_of next) key s.done mine
       (subst (λ (x : View). Allowed z x s.makes.step) kept s.makes.allowed)
       (subst (λ (x : View). StepsTo z s.makes.step g.words x s.makes.word then (view_of next)) kept s.makes.steps)
       (subst (λ (l : List ℕ). Contains l key) (sym (at_who (keys_for g.keys) [])) (next_among g.keys h.share h.done s.next_key s.within))
       (subst (λ (x : View). Advances z g.kind key x (view_of next) s.done) kept (subst (λ (k : Kind). Advances z k key (view_of h) (view_of next) s.done) was.kind_is s.advances))
       plays.running in
       plays_then s.done (ap (share_keys g.keys) s.share) positions_are s.counts hand (dealt_then g who d next is s.share plays.dealt)
-      (subst (λ (l : List ℕ). RunInvariant (record (also_done_by (stepped (run_of g plays.told) then who (view_of next)) who key s.done) { done = updated (done_at g) who l })) done run)
-      (fits s.done s.within) s.told_is
+      (subst (λ (l : List ℕ). RunInvariant (record (also_done_by (stepped (run_of g plays.own_answers) then who (view_of next)) who key s.done) { done = updated (done_at g) who l })) done run)
+      (fits s.done s.within) s.answers_are
     where
       fits : (answer : Option Bool) → position_now h < length g.keys → Fits answer
       fits None within = tt
@@ -354,14 +354,14 @@ module _ (g : Game) (plays : Plays g) (who : ℕ) (mine : who < g.shape.workers)
       let positions_are : positions z next ≡ positions z h =
       ap (λ (s : Share). positions_of z s (view_of next) next.done) share_then ∙ ap (λ (n : ℕ). take n (claimed z (view_of next))) c.counts.0
       ∙ first_stay z (view_of h) (view_of next) c.word (ap (λ (x : View). x.side.claims) c.steps.view_is) h.done most ∙ sym (ap (λ (s : Share). positions_of z s (view_of h) h.done) share) in
-      let run = run_claims (run_of g plays.told) who c.word then (view_of next) mine
+      let run = run_claims (run_of g plays.own_answers) who c.word then (view_of next) mine
       (subst (λ (x : View). Allowed z x Step.claims) kept c.allowed)
       (subst (λ (x : View). StepsTo z Step.claims g.words x c.word then (view_of next)) kept c.steps) plays.running in
       let done : done_at g who ≡ done_keys z g.keys next = at_who (done_keys z g.keys) [] ∙ sym (ap (map (slice_index g.keys)) positions_are) in
       plays_then None keys_are positions_are c.counts hand (claiming_then g who d next is c.claiming.0 c.claiming.1 plays.dealt)
-      (subst (λ (t : ℕ → List Bool). RunInvariant (record (stepped (run_of g plays.told) then who (view_of next)) { done = updated (done_at g) who (done_keys z g.keys next); told = t })) (λ i v. same_as_was plays.told who (plays.told who) refl v i)
-      (subst (λ (l : ℕ → List ℕ). RunInvariant (record (stepped (run_of g plays.told) then who (view_of next)) { done = l })) (λ i v. same_as_was (done_at g) who (done_keys z g.keys next) done v i) run))
-      tt c.told_is
+      (subst (λ (t : ℕ → List Bool). RunInvariant (record (stepped (run_of g plays.own_answers) then who (view_of next)) { done = updated (done_at g) who (done_keys z g.keys next); answers = t })) (λ i v. same_as_was plays.own_answers who (plays.own_answers who) refl v i)
+      (subst (λ (l : ℕ → List ℕ). RunInvariant (record (stepped (run_of g plays.own_answers) then who (view_of next)) { done = l })) (λ i v. same_as_was (done_at g) who (done_keys z g.keys next) done v i) run))
+      tt c.answers_are
 
   -- nothing is changed
   by_nothing : then ≡ g.words → answers ≡ g.answers → next ≡ h → Plays game

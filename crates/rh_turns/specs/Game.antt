@@ -44,9 +44,9 @@ positions_at g = at_hand (positions g.shape) [] g.hands
 abbrev pub changed_at : Game → (v : ℕ) → ℕ
 changed_at g = at_hand (λ h. h.changed) 0 g.hands
 
--- how far all have come, where each was told this of its keys
-abbrev pub run_of : Game → (told : ℕ → List Bool) → Run
-run_of g told = record {
+-- how far all have come, where the keys of each have these answers
+abbrev pub run_of : Game → (own_answers : ℕ → List Bool) → Run
+run_of g own_answers = record {
   kind = g.kind;
   shape = g.shape;
   opening = g.opening;
@@ -54,7 +54,7 @@ run_of g told = record {
   keep = keep g;
   keys = keys_at g;
   done = done_at g;
-  told = told;
+  answers = own_answers;
 }
 
 -- a worker has done the key at this position of the list
@@ -85,12 +85,12 @@ pub record Plays (g : Game) : Type 0 where
   pub answers : length g.answers ≡ length g.keys
   pub hands : All (IsHand g.shape g.kind g.keys) g.hands
   pub dealt : IsDealt g
-  -- what the workers were told of the keys that they have done
-  pub told : ℕ → List Bool
-  pub running : RunInvariant (run_of g told)
-  pub changed : (v : ℕ) → v < g.shape.workers → changed_at g v ≡ how_many (told v)
-  pub answered : (v j : ℕ) → v < g.shape.workers → j < length (told v)
-      → slice_index_or g.answers (slice_index (positions_at g v) j) None ≡ Some (slice_index_or (told v) j false)
+  -- the answers of the keys that the workers have done, of each worker in the order in which it did them
+  pub own_answers : ℕ → List Bool
+  pub running : RunInvariant (run_of g own_answers)
+  pub changed : (v : ℕ) → v < g.shape.workers → changed_at g v ≡ how_many (own_answers v)
+  pub answered : (v j : ℕ) → v < g.shape.workers → j < length (own_answers v)
+      → slice_index_or g.answers (slice_index (positions_at g v) j) None ≡ Some (slice_index_or (own_answers v) j false)
   pub unanswered : (p : ℕ) → (IsDoneAt g p → ⊥) → slice_index_or g.answers p None ≡ None
 
 -- all keys of all workers are done

@@ -12,7 +12,7 @@ use Rattle.rh_worker.specs.Makes.{MakesStep}
 use Rattle.rh_carrier.specs.Relies.{Shows}
 use Rattle.rh_order.specs.Advance.{Advances}
 use Rattle.rh_worker.specs.Worker.{GivesUp, HasNoRoom, IsWorker}
-use Rattle.rh_worker.specs.declared.stage.Stage.TheVariants as stage
+use Rattle.rh_worker.specs.declared.stage.KeyStage.TheVariants as stage
 use Rattle.rh_order.specs.Claimed.{claimed, FoundEnd}
 use Rattle.rh_turns.specs.declared.hand.Hand.{Hand}
 use Rattle.rh_turns.specs.declared.hand.Share.{Share}
@@ -117,14 +117,14 @@ pub record IsNew (kind : Kind) (z : Shape) (words : List ℕ) (v : ℕ) (h : Han
 
 -- ---- a turn of it
 
--- what it has HasCounted once it is told of a key
+-- what it has counted once a key has an answer
 abbrev pub HasCounted : Hand → Option Bool → Hand → Type 0
 HasCounted h None next = (next.done ≡ h.done) × (next.changed ≡ h.changed)
-HasCounted h (Some told) next = (next.done ≡ h.done + 1) × (next.changed ≡ h.changed + cond told 1 0)
+HasCounted h (Some answer) next = (next.done ≡ h.done + 1) × (next.changed ≡ h.changed + cond answer 1 0)
 
 abbrev pub answered : (answers : List (Option Bool)) → (position : ℕ) → Option Bool → List (Option Bool)
 answered answers position None = answers
-answered answers position (Some told) = set answers position (Some told)
+answered answers position (Some answer) = set answers position (Some answer)
 
 -- what a turn may change: the words of the table, the answers, and the worker whose turn it is
 pub record Moment : Type 0 where
@@ -151,7 +151,7 @@ pub record StepsBy (made : Making) (z : Shape) (keys : List ℕ) (k : StepKind) 
   pub gives_up : GivesUp (view_of m.hand) (view_of next.hand) → IsSpent next.hand
   pub share : next.hand.share ≡ m.hand.share
   pub counts : HasCounted m.hand done next.hand
-  pub told_is : next.answers ≡ answered m.answers (position_now m.hand) done
+  pub answers_are : next.answers ≡ answered m.answers (position_now m.hand) done
 
 -- One Claim of a worker that is at no key.
 pub record ClaimsBy (made : Making) (z : Shape) (m next : Moment) : Type 0 where
@@ -161,7 +161,7 @@ pub record ClaimsBy (made : Making) (z : Shape) (m next : Moment) : Type 0 where
   pub steps : made z Step.claims m.words (view_of m.hand) word next.words (view_of next.hand)
   pub claiming : IsClaiming m.hand × IsClaiming next.hand
   pub counts : (next.hand.done ≡ m.hand.done) × (next.hand.changed ≡ m.hand.changed)
-  pub told_is : next.answers ≡ m.answers
+  pub answers_are : next.answers ≡ m.answers
 
 -- Nothing was changed.
 abbrev pub IsSame : (m next : Moment) → Type 0

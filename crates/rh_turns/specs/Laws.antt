@@ -98,22 +98,22 @@ RoundsKeep = (g : Game) → Plays g → AllStopped g → AllRest g.shape (keep g
 
 -- ---- what was made
 
--- What is counted of the keys that are done, and what stands at their positions, where each worker was told this of its keys.
--- Where keys are asked for, it is told of each whether the first set holds it; of a key that is not done nothing is told.
-pub record OutcomeSpec (g : Game) (told : ℕ → List Bool) : Type 0 where
+-- What is counted of the keys that are done, and what stands at their positions, where the keys of each worker have these answers.
+-- Where keys are asked for, the answer of each is whether the first set holds it; a key that is not done has none.
+pub record OutcomeSpec (g : Game) (own_answers : ℕ → List Bool) : Type 0 where
   pub counts : (v : ℕ) (d : Hand) → v < g.shape.workers → length (positions_at g v) ≡ (hand g v d).done
-  pub changed : (v : ℕ) → v < g.shape.workers → changed_at g v ≡ how_many (told v)
-  pub stands : (v j : ℕ) → v < g.shape.workers → j < length (told v)
-      → slice_index_or g.answers (slice_index (positions_at g v) j) None ≡ Some (slice_index_or (told v) j false)
+  pub changed : (v : ℕ) → v < g.shape.workers → changed_at g v ≡ how_many (own_answers v)
+  pub stands : (v j : ℕ) → v < g.shape.workers → j < length (own_answers v)
+      → slice_index_or g.answers (slice_index (positions_at g v) j) None ≡ Some (slice_index_or (own_answers v) j false)
   pub answers : g.kind ≡ Ask → (p : ℕ) → IsDoneAt g p → slice_index_or g.answers p None ≡ Some (contains (keys_of g.opening) (slice_index g.keys p))
   pub unanswered : (p : ℕ) → (IsDoneAt g p → ⊥) → slice_index_or g.answers p None ≡ None
 
 -- At each moment the words tell what the cells stand for: the layout of the set after the keys of the acts so far, in their
--- order. By these acts each worker has done its keys, and was told of each; and the set reflects each key that is done.
+-- order. By these acts each worker has done its keys, with these answers; and the set reflects each key that is done.
 abbrev pub MadeSoFar : Type 0
 MadeSoFar = (g : Game) → (plays : Plays g) → ((c : ℕ) → c < cell_count g.shape → IsReadable g.shape g.words (keep g) c)
-    × MomentSpec (run_of g plays.told) (keys_of g.opening) plays.running.before (history plays.running.world)
-    × OutcomeSpec g plays.told
+    × MomentSpec (run_of g plays.own_answers) (keys_of g.opening) plays.running.before (history plays.running.world)
+    × OutcomeSpec g plays.own_answers
 
 -- Where all keys are done, the cells, the tally and the answers are those of one worker that does the whole list.
 pub record EndsWith (g : Game) : Type 0 where

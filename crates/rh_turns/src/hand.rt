@@ -19,7 +19,7 @@ pub struct Hand {
     pub share: Share,
     /// How many of its keys are done.
     pub done: usize,
-    /// Of how many of these it was told that they were added, removed or found.
+    /// How many of these were added, removed or found.
     pub changed: usize,
 }
 

@@ -13,8 +13,8 @@ pub fn games_go_on()
 {}
 
 /// At each moment the cells stand for the layout of the set after the keys of the acts so far, by
-/// which each worker has done its keys, and what is told of these is so; where all keys are done,
-/// the cells, the tally and the answers are those of one worker.
+/// which each worker has done its keys, with these answers. Where all keys are done, the cells, the
+/// tally and the answers are those of one worker.
 pub fn games_make()
     ensures so_far { MadeSoFar }
     ensures at_the_end { MadeAtTheEnd }

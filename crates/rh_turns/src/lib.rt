@@ -7,8 +7,8 @@
 //! Proved:
 //!
 //! - `take_turn`: one step of just the kind that it answers, on the next key of a worker that is
-//!   not spent. Or it is one Claim, where the worker is at no key. What it counts and answers is
-//!   what the step told, at the key's position, and what the table records is of this step.
+//!   not spent. Or it is one Claim, where the worker is at no key. What it counts, and puts at
+//!   the key's position, is the answer of the step, and what the table records is of this step.
 //! - `take_turn` makes no step where all keys of the worker are done or it is spent, and then
 //!   nothing is changed. It is spent only where no number is left for a mark, or none for a
 //!   descriptor.

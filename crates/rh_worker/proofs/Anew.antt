@@ -15,7 +15,7 @@ use Rattle.rh_order.specs.History.{kept_of, value_of}
 use Rattle.rh_words.specs.declared.shape.Shape.{Shape}
 use Rattle.rh_words.specs.Parts.{cell_count}
 use Rattle.rh_words.specs.View.{View}
-use Rattle.rh_worker.specs.Reading.{HasScanned, IsToldAnew, TellsAnew, seen_back}
+use Rattle.rh_worker.specs.Reading.{HasScanned, IsAsReadAnew, TellsAnew, seen_back}
 use Rattle.rh_worker.specs.Worker.{WereRead}
 
 -- the same reads are kept
@@ -78,6 +78,6 @@ each_read z before v k seen h p less =
     (Contains-append_left (seen_back z k seen (length seen)) (h.since ++ before) _ (in_back z k seen (length seen) p less))
 
 pub tells_anew : (z : Shape) (before : List Kept) (kind : Kind) (k : ℕ) (v next : View) (done : Option Bool) → GoesOn v next
-    → IfSome done (IsToldAnew z before next kind k) → TellsAnew z before kind k v next done
+    → IfSome done (IsAsReadAnew z before next kind k) → TellsAnew z before kind k v next done
 tells_anew z before kind k v next None on h = tt
-tells_anew z before kind k v next (Some told) on h = inl (on, h)
+tells_anew z before kind k v next (Some answer) on h = inl (on, h)

@@ -20,15 +20,15 @@ module _ (z : Shape) (v next : View) (kind : Kind) (k : ℕ) (f : StepFinishes v
   goes_on (inr (inl o)) = f.stays (λ p q. absurd (let n : None ≡ Some p = sym o.closed ∙ q in cc))
   goes_on (inr (inr b)) = f.fails b.own b.control b.closes b.before b.in_vain
 
-is_done : (z : Shape) (v next : View) (kind : Kind) (k : ℕ) (told : Bool) → StepFinishes v next → Advances z kind k v next (Some told) → KeyIsDone z kind k v next told
-is_done z v next kind k told f (inl g) =
+is_done : (z : Shape) (v next : View) (kind : Kind) (k : ℕ) (answer : Bool) → StepFinishes v next → Advances z kind k v next (Some answer) → KeyIsDone z kind k v next answer
+is_done z v next kind k answer f (inl g) =
     record { acts = []; own = stays z v next kind k f g.0 ∙ sym (append-nil (own_acts_of v)); done = inr record { none = refl; tells = g.1 } }
-is_done z v next kind k told f (inr s) =
+is_done z v next kind k answer f (inr s) =
     record { acts = act_of s.own.entries ∷ []; own = f.succeeds s.own s.closes s.before; done = inl record { act = act_of s.own.entries; only = refl; does = s.does } }
 
 after : (z : Shape) (v next : View) (kind : Kind) (k : ℕ) (done : Option Bool) → StepFinishes v next → Advances z kind k v next done → AfterStep z v next kind k done
 after z v next kind k None f a = goes_on z v next kind k f a
-after z v next kind k (Some told) f a = is_done z v next kind k told f a
+after z v next kind k (Some answer) f a = is_done z v next kind k answer f a
 
 pub keys_are_done : KeysAreDone
 keys_are_done z v next kind k done m a orderly sound =

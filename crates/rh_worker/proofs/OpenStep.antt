@@ -23,7 +23,7 @@ use Rattle.rh_helping.specs.Work.{Stands}
 use Rattle.rh_helping.proofs.Owing.{open_all_noted}
 use Rattle.rh_helping.proofs.OwnRows.{entry_is}
 use Rattle.rh_worker.specs.declared.stage.Plan.{Plan}
-use Rattle.rh_worker.specs.declared.stage.Stage.TheVariants as stage
+use Rattle.rh_worker.specs.declared.stage.KeyStage.TheVariants as stage
 use Rattle.rh_worker.specs.declared.scan_buffer.ScanBuffer.{ScanBuffer}
 use Rattle.rh_worker.specs.Deciding.{AreFit}
 use Rattle.rh_worker.specs.Worker.{IsPlanned, Stays, planned}

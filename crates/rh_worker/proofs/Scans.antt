@@ -7,7 +7,7 @@ use Rattle.rh_ledger.specs.declared.tally.Kind.{Kind}
 use Rattle.rh_ledger.specs.declared.tally.Kind.TheVariants.{Insert, Remove, Ask}
 use Rattle.rh_world.proofs.Updated.{same_nat}
 use Rattle.rh_layout.specs.declared.entry.Entry.{Entry}
-use Rattle.rh_acts.specs.Done.{IsTold, Kept, kept}
+use Rattle.rh_acts.specs.Done.{IsAsRead, Kept, kept}
 use Rattle.rh_order.specs.History.{kept_of}
 use Rattle.rh_words.specs.declared.shape.Shape.{Shape}
 use Rattle.rh_words.specs.Parts.{cell_count}
@@ -22,13 +22,13 @@ use Rattle.rh_worker.specs.declared.deciding.Decision.TheVariants.{Done}
 use Rattle.rh_worker.specs.Deciding.{Decides}
 use Rattle.rh_worker.specs.Worker.{HasSeenCells, WereRead}
 
-pub told_is : (kind : Kind) (z : Shape) (v : View) (k : ℕ) (seen : List ℕ) (entries : List Entry) (told : Bool) → length seen ≤ cell_count z → WereRead z v k seen
-    → Decides kind z.bits k seen entries (Done told) → IsTold kind z.bits (kept_of z v) k told
-told_is Insert z v k seen entries told room read d =
+pub as_read_is : (kind : Kind) (z : Shape) (v : View) (k : ℕ) (seen : List ℕ) (entries : List Entry) (answer : Bool) → length seen ≤ cell_count z → WereRead z v k seen
+    → Decides kind z.bits k seen entries (Done answer) → IsAsRead kind z.bits (kept_of z v) k answer
+as_read_is Insert z v k seen entries answer room read d =
     let c = cell_ahead (cell_count z) (home_of z.bits k) d.1.0 in
     (d.0, (c, subst (λ (x : ℕ). Contains (kept_of z v) (kept c x)) d.1.1.2 (read d.1.0 d.1.1.0)))
-told_is Remove z v k seen entries told room read d = absurd d
-told_is Ask z v k seen entries told room read d = record { seen = seen; room = room; read = read; tells = d }
+as_read_is Remove z v k seen entries answer room read d = absurd d
+as_read_is Ask z v k seen entries answer room read d = record { seen = seen; room = room; read = read; tells = d }
 
 pub seen_again : (z : Shape) (v : View) (k : ℕ) (s t : ScanBuffer) (n : ℕ) → n < cell_count z → n ≤ length s.seen.items → t.seen.items ≡ s.seen.items → WereRead z v k (take n s.seen.items)
     → HasSeenCells z v k t n

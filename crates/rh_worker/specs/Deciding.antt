@@ -39,11 +39,11 @@ pub record IsPlan (kind : Kind) (b k : ℕ) (entries : List Entry) (p : Plan) : 
 
 -- The key is done by what was seen, with this answer: it is to be inserted and is there, or it is asked for and its place
 -- is seen. It is never removed without an act.
-abbrev pub IsDoneBy : Kind → (b k : ℕ) → (seen : List ℕ) → (told : Bool) → Type 0
-IsDoneBy Insert b k seen told = (told ≡ false) × ((i : ℕ) × Finds b k seen (look.Here i))
-IsDoneBy Remove b k seen told = ⊥
-IsDoneBy Ask b k seen told =
-    ((told ≡ true) × ((i : ℕ) × Finds b k seen (look.Here i))) ⊎ ((told ≡ false) × ((i : ℕ) × Finds b k seen (look.Goes i)))
+abbrev pub IsDoneBy : Kind → (b k : ℕ) → (seen : List ℕ) → (answer : Bool) → Type 0
+IsDoneBy Insert b k seen answer = (answer ≡ false) × ((i : ℕ) × Finds b k seen (look.Here i))
+IsDoneBy Remove b k seen answer = ⊥
+IsDoneBy Ask b k seen answer =
+    ((answer ≡ true) × ((i : ℕ) × Finds b k seen (look.Here i))) ⊎ ((answer ≡ false) × ((i : ℕ) × Finds b k seen (look.Goes i)))
 
 -- a removal with so many entries, that changes a cell or does not
 abbrev pub removal_of : (changes : Bool) (entries : ℕ) → Removal
@@ -63,6 +63,6 @@ IsLeftOpenBy Remove b k seen entries = Removes b k seen entries removal.More
 IsLeftOpenBy Ask b k seen entries = Finds b k seen look.More
 
 abbrev pub Decides : Kind → (b k : ℕ) → (seen : List ℕ) → (entries : List Entry) → Decision → Type 0
-Decides kind b k seen entries (Done told) = IsDoneBy kind b k seen told
+Decides kind b k seen entries (Done answer) = IsDoneBy kind b k seen answer
 Decides kind b k seen entries (Acts p) = IsPlan kind b k entries p × IsAskedBy kind b k seen entries p
 Decides kind b k seen entries More = IsLeftOpenBy kind b k seen entries

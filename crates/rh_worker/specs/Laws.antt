@@ -11,16 +11,16 @@ use Rattle.rh_order.specs.OwnActs.{Orderly}
 use Rattle.rh_order.specs.Advance.{Advances}
 use Rattle.rh_worker.specs.Makes.{Moves}
 
--- The key is done by the next own acts, and what is told of it follows from them, or from what was read.
-pub record KeyIsDone (z : Shape) (kind : Kind) (k : ℕ) (v next : View) (told : Bool) : Type 0 where
+-- The key is done by the next own acts, and its answer follows from them, or from what was read.
+pub record KeyIsDone (z : Shape) (kind : Kind) (k : ℕ) (v next : View) (answer : Bool) : Type 0 where
   pub acts : List Act
   pub own : own_acts_of next ≡ own_acts_of v ++ acts
-  pub done : KeyDone kind z.bits (kept_of z next) k acts told
+  pub done : KeyDone kind z.bits (kept_of z next) k acts answer
 
 -- in a step of a worker that is in order, with what is sound after it
 abbrev pub AfterStep : (z : Shape) (v next : View) (kind : Kind) (k : ℕ) (done : Option Bool) → Type 0
 AfterStep z v next kind k None = own_acts_of next ≡ own_acts_of v
-AfterStep z v next kind k (Some told) = KeyIsDone z kind k v next told
+AfterStep z v next kind k (Some answer) = KeyIsDone z kind k v next answer
 
 abbrev pub KeysAreDone : Type 0
 KeysAreDone = (z : Shape) (v next : View) (kind : Kind) (k : ℕ) (done : Option Bool)

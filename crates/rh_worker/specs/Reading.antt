@@ -10,8 +10,8 @@ use Rattle.rh_words.specs.View.{View}
 use Rattle.rh_order.specs.History.{kept_of}
 use Rattle.rh_order.specs.Advance.{GoesOn, Succeeds}
 use Rattle.rh_worker.specs.Deciding.{IsDoneBy}
-use Rattle.rh_worker.specs.declared.stage.Stage.{Stage}
-use Rattle.rh_worker.specs.declared.stage.Stage.TheVariants as stage
+use Rattle.rh_worker.specs.declared.stage.KeyStage.{KeyStage}
+use Rattle.rh_worker.specs.declared.stage.KeyStage.TheVariants as stage
 use Rattle.rh_worker.specs.declared.worker.Worker.{Worker}
 
 -- the first n cells from the key's home on, as they were seen, the last one first
@@ -27,7 +27,7 @@ pub record HasScanned (z : Shape) (before : List Kept) (v : View) (k : ℕ) (see
   pub reads : kept_of z v ≡ seen_back z k seen n ++ (since ++ before)
 
 -- how many cells from the key's home on are seen, at a stage
-abbrev pub seen_at : Stage → ℕ
+abbrev pub seen_at : KeyStage → ℕ
 seen_at stage.Idle = 0
 seen_at stage.Spent = 0
 seen_at (stage.Scan l n) = n
@@ -38,13 +38,13 @@ seen_at (stage.Swap n p) = 0
 abbrev pub ReadsAnew : Shape → (before : List Kept) → Worker → Type 0
 ReadsAnew z before w = HasScanned z before w.side.known.view w.key w.buffer.seen.items (seen_at w.stage)
 
--- what is told of a key that no act does, by the cells that were read in turn since it was begun
-pub record IsToldAnew (z : Shape) (before : List Kept) (v : View) (kind : Kind) (k : ℕ) (told : Bool) : Type 0 where
+-- the answer of a key that no act does, by the cells that were read in turn since it was begun
+pub record IsAsReadAnew (z : Shape) (before : List Kept) (v : View) (kind : Kind) (k : ℕ) (answer : Bool) : Type 0 where
   pub seen : List ℕ
   pub read : HasScanned z before v k seen (length seen)
-  pub tells : IsDoneBy kind z.bits k seen told
+  pub tells : IsDoneBy kind z.bits k seen answer
 
--- where a step does the key, it is done by an own act, or is told so
+-- where a step does the key, it is done by an own act, or answered so
 abbrev pub TellsAnew : Shape → (before : List Kept) → Kind → (k : ℕ) → (v next : View) → (done : Option Bool) → Type 0
 TellsAnew z before kind k v next None = Unit {0}
-TellsAnew z before kind k v next (Some told) = (GoesOn v next × IsToldAnew z before next kind k told) ⊎ Succeeds z kind k v next told
+TellsAnew z before kind k v next (Some answer) = (GoesOn v next × IsAsReadAnew z before next kind k answer) ⊎ Succeeds z kind k v next answer

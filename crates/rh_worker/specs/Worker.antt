@@ -26,14 +26,14 @@ use Rattle.rh_order.specs.OwnActs.{Closes}
 use Rattle.rh_worker.specs.Deciding.{IsPlan}
 use Rattle.rh_worker.specs.ScanBuffer.{HasRoom}
 use Rattle.rh_worker.specs.declared.stage.Plan.{Plan}
-use Rattle.rh_worker.specs.declared.stage.Stage.{Stage}
-use Rattle.rh_worker.specs.declared.stage.Stage.TheVariants as stage
+use Rattle.rh_worker.specs.declared.stage.KeyStage.{KeyStage}
+use Rattle.rh_worker.specs.declared.stage.KeyStage.TheVariants as stage
 use Rattle.rh_worker.specs.declared.scan_buffer.ScanBuffer.{ScanBuffer}
 use Rattle.rh_worker.specs.declared.worker.Worker.{Worker}
 
 -- A worker alone inserts key 9 into an empty table of 3 bits in 17 steps: a Read of cell 4, five Writes of its row, an Open, a
 -- Read of its control, three Writes of the mark row, a Place, a Read, a Settle, a Read, a Decide, a Release.
-abbrev pub kind_of_stage : Machine → Stage → StepKind
+abbrev pub kind_of_stage : Machine → KeyStage → StepKind
 kind_of_stage m stage.Idle = kind.Read
 kind_of_stage m stage.Spent = kind.Read
 kind_of_stage m (stage.Scan l n) = kind_of_looking (looking_of l m)
@@ -41,7 +41,7 @@ kind_of_stage m (stage.Open o p) = kind_of_opening o
 kind_of_stage m (stage.Swap n p) = kind_of_work (work_of m)
 
 -- a step is left
-abbrev pub IsBusy : Stage → Type 0
+abbrev pub IsBusy : KeyStage → Type 0
 IsBusy stage.Idle = ⊥
 IsBusy stage.Spent = ⊥
 IsBusy (stage.Scan l n) = Unit {0}
@@ -49,9 +49,9 @@ IsBusy (stage.Open o p) = Unit {0}
 IsBusy (stage.Swap n p) = Unit {0}
 
 -- a worker is idle exactly where the key was done
-abbrev pub EndsAt : (done : Option Bool) → Stage → Type 0
+abbrev pub EndsAt : (done : Option Bool) → KeyStage → Type 0
 EndsAt None p = p ≡ stage.Idle → ⊥
-EndsAt (Some told) p = p ≡ stage.Idle
+EndsAt (Some answer) p = p ≡ stage.Idle
 
 -- each was read of its cell, from the key's home on
 abbrev pub WereRead : Shape → View → (k : ℕ) → (seen : List ℕ) → Type 0
@@ -93,7 +93,7 @@ HasNoRoom z v = (z.rooms.marks ≤ v.marks_used) ⊎ (z.rooms.descriptors ≤ v.
 
 -- ---- at each stage
 
-abbrev pub Stays : Shape → View → Kind → (k : ℕ) → ScanBuffer → Machine → Stage → Type 0
+abbrev pub Stays : Shape → View → Kind → (k : ℕ) → ScanBuffer → Machine → KeyStage → Type 0
 Stays z v kind k s m stage.Idle = IsClear v
 Stays z v kind k s m stage.Spent = IsClear v × HasNoRoom z v
 Stays z v kind k s m (stage.Scan l n) = IsLooking z v (looking_of l m) × HasSeenCells z v k s n
@@ -101,7 +101,7 @@ Stays z v kind k s m (stage.Open o p) = IsPlanned z v kind k s p × IsOpening v 
 Stays z v kind k s m (stage.Swap n p) = KnowsOwn v (Some (opened_as n s p)) × Stands z v (work_of m) × IsPlan kind z.bits k s.entries.items p
 
 -- what is so of a worker at a stage
-pub record IsAtStage (z : Shape) (w : Worker) (p : Stage) : Type 0 where
+pub record IsAtStage (z : Shape) (w : Worker) (p : KeyStage) : Type 0 where
   pub key : IsKey w.key
   pub room : HasRoom z.bits w.buffer
   pub stays : Stays z w.side.known.view w.kind w.key w.buffer w.machine p

@@ -32,5 +32,5 @@ mod worker;
 pub use deciding::{Decision, decide};
 pub use laws::keys_are_done;
 pub use scan_buffer::ScanBuffer;
-pub use stage::{Plan, Stage};
+pub use stage::{KeyStage, Plan};
 pub use worker::{Stepped, Worker};

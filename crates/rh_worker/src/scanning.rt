@@ -5,9 +5,9 @@ ghost use Rattle.rh_order.specs.Advance.{Advances};
 ghost use Rattle.rh_worker.specs.Makes.{MakesStep};
 ghost use Rattle.rh_carrier.specs.Relies.{Relies};
 ghost use Rattle.rh_worker.specs.Worker.{IsAtStage, IsWorker, KeepsKey};
-ghost use Rattle.rh_worker.specs.declared.stage.Stage.TheVariants as stage;
-ghost use Rattle.rh_acts.specs.Done.{IsTold, Kept};
-ghost use Rattle.rh_worker.specs.Reading.{HasScanned, IsToldAnew, ReadsAnew, TellsAnew, seen_at};
+ghost use Rattle.rh_worker.specs.declared.stage.KeyStage.TheVariants as stage;
+ghost use Rattle.rh_acts.specs.Done.{IsAsRead, Kept};
+ghost use Rattle.rh_worker.specs.Reading.{HasScanned, IsAsReadAnew, ReadsAnew, TellsAnew, seen_at};
 ghost use Rattle.rh_order.specs.History.{kept_of};
 ghost use Rattle.rh_carrier.specs.Own.{IsClear};
 ghost use Rattle.rh_helping.specs.Looking.{kind_of_looking};
@@ -20,7 +20,7 @@ ghost use Rattle.rh_layout.specs.Key.{IsKey};
 ghost use Rattle.rh_rule.specs.Sound.{Sound};
 
 use crate::deciding::Decision;
-use crate::stage::{Plan, Stage};
+use crate::stage::{KeyStage, Plan};
 use crate::worker::Worker;
 use rh_carrier::Steps;
 use rh_helping::{Opening, Sight, Watch};
@@ -61,7 +61,7 @@ pub(crate) fn scan<T: Steps>(
         .look(watch, shape, table, &mut worker.side, cell)
     {
         Sight::On(watch) => {
-            worker.stage = Stage::Scan { watch, seen };
+            worker.stage = KeyStage::Scan { watch, seen };
             None
         }
         Sight::Sees(word) => {
@@ -71,7 +71,7 @@ pub(crate) fn scan<T: Steps>(
             decide(worker, shape, seen + 1)
         }
         Sight::Spent => {
-            worker.stage = Stage::Spent;
+            worker.stage = KeyStage::Spent;
             None
         }
     }
@@ -91,20 +91,20 @@ fn decide(worker: &mut Worker, shape: &Shape, count: usize) -> Option<bool>
     ensures same_view { worker.new.side.known.view ≡ worker.old.side.known.view }
     ensures keeps { KeepsKey worker.old worker.new }
     ensures ends { EndsAt result worker.new.stage }
-    ensures told { IfSome result (IsTold worker.old.kind shape.now.bits
+    ensures answer { IfSome result (IsAsRead worker.old.kind shape.now.bits
         (kept_of shape.now worker.old.side.known.view) worker.old.key) }
     ensures anew { (before : List Kept) →
         HasScanned shape.now before worker.old.side.known.view worker.old.key
         worker.old.buffer.seen.items count → ReadsAnew shape.now before worker.new ×
         IfSome result
-        (IsToldAnew shape.now before worker.new.side.known.view worker.old.kind worker.old.key) }
+        (IsAsReadAnew shape.now before worker.new.side.known.view worker.old.kind worker.old.key) }
 {
     let decision = worker
         .buffer
         .decide(worker.kind, shape.bits, worker.key, count);
     match decision {
         Decision::Done(answer) => {
-            worker.stage = Stage::Idle;
+            worker.stage = KeyStage::Idle;
             Some(answer)
         }
         Decision::Acts(plan) => {
@@ -113,14 +113,14 @@ fn decide(worker: &mut Worker, shape: &Shape, count: usize) -> Option<bool>
         }
         Decision::More => {
             let seen = if count < shape.cells() { count } else { 0 };
-            worker.stage = Stage::reading(seen);
+            worker.stage = KeyStage::reading(seen);
             None
         }
     }
 }
 
 /// The first step of an own descriptor, if there is a number left for it and a mark for its work.
-fn stage_for(worker: &Worker, shape: &Shape, plan: Plan) -> Stage
+fn stage_for(worker: &Worker, shape: &Shape, plan: Plan) -> KeyStage
     requires sound { Sound shape.now worker.now.side.known.view }
     requires clear { IsClear worker.now.side.known.view }
     requires plan { IsPlan worker.now.kind shape.now.bits worker.now.key
@@ -132,11 +132,11 @@ fn stage_for(worker: &Worker, shape: &Shape, plan: Plan) -> Stage
 {
     let side = &worker.side;
     if side.next_number < shape.rooms.descriptors && side.marks_used < shape.rooms.marks {
-        Stage::Open {
+        KeyStage::Open {
             opening: Opening::Serial,
             plan,
         }
     } else {
-        Stage::Spent
+        KeyStage::Spent
     }
 }

@@ -3,7 +3,7 @@
 ghost use Rattle.std.specs.Prelude.{◌≡◌};
 ghost use Rattle.rh_helping.specs.declared.looking.Watch.TheVariants as watch;
 ghost use Rattle.rh_worker.specs.Worker.{kind_of_stage};
-ghost use Rattle.rh_worker.specs.declared.stage.Stage.TheVariants as stage;
+ghost use Rattle.rh_worker.specs.declared.stage.KeyStage.TheVariants as stage;
 
 use rh_helping::{Machine, Opening, Watch};
 use rh_words::StepKind;
@@ -20,7 +20,7 @@ pub struct Plan {
 
 /// The next step of a worker. What it needs of cells and descriptors is in the worker's machine.
 #[derive(Clone, Copy)]
-pub enum Stage {
+pub enum KeyStage {
     /// None: no key is begun.
     Idle,
     /// None before the next round, which begins the key again.
@@ -33,12 +33,12 @@ pub enum Stage {
     Swap { number: u64, plan: Plan },
 }
 
-impl Stage {
+impl KeyStage {
     /// Read of the next cell, where so many were seen.
-    pub(crate) fn reading(seen: usize) -> Stage
+    pub(crate) fn reading(seen: usize) -> KeyStage
         ensures { result ≡ stage.Scan watch.Read seen }
     {
-        Stage::Scan {
+        KeyStage::Scan {
             watch: Watch::Read,
             seen,
         }
@@ -50,10 +50,10 @@ impl Stage {
         ensures { result ≡ kind_of_stage machine.now self.now }
     {
         match self {
-            Stage::Idle | Stage::Spent => StepKind::Read,
-            Stage::Scan { watch, .. } => machine.kind_as(*watch),
-            Stage::Open { opening, .. } => opening.kind(),
-            Stage::Swap { .. } => machine.kind(),
+            KeyStage::Idle | KeyStage::Spent => StepKind::Read,
+            KeyStage::Scan { watch, .. } => machine.kind_as(*watch),
+            KeyStage::Open { opening, .. } => opening.kind(),
+            KeyStage::Swap { .. } => machine.kind(),
         }
     }
 }

@@ -6,13 +6,13 @@ ghost use Rattle.rh_worker.specs.Makes.{MakesStep};
 ghost use Rattle.rh_carrier.specs.Relies.{Relies};
 ghost use Rattle.rh_worker.specs.Worker.{EndsAt, GivesUp, IsAtStage, IsWorker, KeepsKey};
 ghost use Rattle.rh_worker.specs.Reading.{HasScanned, ReadsAnew};
-ghost use Rattle.rh_worker.specs.declared.stage.Stage.TheVariants as stage;
+ghost use Rattle.rh_worker.specs.declared.stage.KeyStage.TheVariants as stage;
 ghost use Rattle.rh_acts.specs.Done.{Kept};
 ghost use Rattle.rh_helping.specs.Opening.{kind_of_opening};
 ghost use Rattle.rh_helping.specs.Work.{kind_of_work};
 ghost use Rattle.rh_helping.specs.Machine.{work_of};
 
-use crate::stage::{Plan, Stage};
+use crate::stage::{KeyStage, Plan};
 use crate::worker::Worker;
 use rh_carrier::Steps;
 use rh_helping::{Ended, OpenDesc, Opening, Progress};
@@ -47,10 +47,10 @@ pub(crate) fn open<T: Steps>(
     };
     let entries = &worker.buffer.entries[..plan.entries];
     match opening.step(shape, table, &mut worker.side, entries) {
-        Some(opening) => worker.stage = Stage::Open { opening, plan },
+        Some(opening) => worker.stage = KeyStage::Open { opening, plan },
         None => {
             worker.machine.go_about(desc);
-            worker.stage = Stage::Swap {
+            worker.stage = KeyStage::Swap {
                 number: desc.number,
                 plan,
             };
@@ -93,19 +93,19 @@ pub(crate) fn swap<T: Steps>(
         .step_own(shape, table, &mut worker.side, open)
     {
         Progress::On => {
-            worker.stage = Stage::Swap { number, plan };
+            worker.stage = KeyStage::Swap { number, plan };
             None
         }
         Progress::Closed(Ended::Succeeded) => {
-            worker.stage = Stage::Idle;
+            worker.stage = KeyStage::Idle;
             Some(plan.changes)
         }
         Progress::Closed(Ended::Withdrawn) => {
-            worker.stage = Stage::Spent;
+            worker.stage = KeyStage::Spent;
             None
         }
         Progress::Closed(Ended::Failed { .. }) => {
-            worker.stage = Stage::reading(0);
+            worker.stage = KeyStage::reading(0);
             None
         }
         Progress::Over | Progress::Spent => unreachable!(),

@@ -14,10 +14,10 @@ ghost use Rattle.rh_worker.specs.Reading.{ReadsAnew, TellsAnew};
 ghost use Rattle.rh_acts.specs.Done.{Kept};
 ghost use Rattle.rh_order.specs.History.{kept_of};
 ghost use Rattle.rh_helping.specs.Held.{IsHeld};
-ghost use Rattle.rh_worker.specs.declared.stage.Stage.TheVariants as stage;
+ghost use Rattle.rh_worker.specs.declared.stage.KeyStage.TheVariants as stage;
 
 use crate::scan_buffer::ScanBuffer;
-use crate::stage::Stage;
+use crate::stage::KeyStage;
 use crate::{scanning, swapping};
 use rh_carrier::Steps;
 use rh_helping::{Machine, Owed};
@@ -35,7 +35,7 @@ pub struct Worker {
     /// The key that was begun last.
     pub key: u64,
     /// What it does next.
-    pub stage: Stage,
+    pub stage: KeyStage,
     /// How it goes about what it meets, and about its own descriptor.
     pub machine: Machine,
     /// What it has seen of the table for the key.
@@ -69,7 +69,7 @@ impl Worker {
             side: Side::new(worker, cells),
             kind,
             key: 0,
-            stage: Stage::Idle,
+            stage: KeyStage::Idle,
             machine: Machine::about(Ref { worker, number: 0 }),
             buffer,
         })
@@ -79,14 +79,14 @@ impl Worker {
     pub fn is_idle(&self) -> bool
         ensures { IsTrue result ↔ (self.now.stage ≡ stage.Idle) }
     {
-        matches!(self.stage, Stage::Idle)
+        matches!(self.stage, KeyStage::Idle)
     }
 
     /// Whether no step is left before the next round.
     pub fn is_spent(&self) -> bool
         ensures { IsTrue result ↔ (self.now.stage ≡ stage.Spent) }
     {
-        matches!(self.stage, Stage::Spent)
+        matches!(self.stage, KeyStage::Spent)
     }
 
     /// The cell where an own mark stands that is not settled yet, or where its descriptor may stand
@@ -95,9 +95,9 @@ impl Worker {
         ensures { (z : Shape) → IsWorker z self.now → IsHeld self.now.side.known.view result }
     {
         match &self.stage {
-            Stage::Scan { watch, .. } => self.machine.held_as(*watch),
-            Stage::Swap { .. } => self.machine.owed_cell(),
-            Stage::Idle | Stage::Spent | Stage::Open { .. } => None,
+            KeyStage::Scan { watch, .. } => self.machine.held_as(*watch),
+            KeyStage::Swap { .. } => self.machine.owed_cell(),
+            KeyStage::Idle | KeyStage::Spent | KeyStage::Open { .. } => None,
         }
     }
 
@@ -113,7 +113,7 @@ impl Worker {
         ensures anew { (z : Shape) → ReadsAnew z (kept_of z self.new.side.known.view) self.new }
     {
         self.key = key;
-        self.stage = Stage::reading(0);
+        self.stage = KeyStage::reading(0);
     }
 
     /// Claims the next position in the list of keys, and answers it.
@@ -143,12 +143,12 @@ impl Worker {
     {
         self.side.begin_round(cells);
         if self.is_spent() {
-            self.stage = Stage::reading(0);
+            self.stage = KeyStage::reading(0);
         }
     }
 
     /// Makes the next step. With the one by which it gives up a key it is spent. A key that no act
-    /// does is told of by what was read since it was begun.
+    /// does is answered by what was read since it was begun.
     #[inline(always)]
     pub fn step<T: Steps>(&mut self, shape: &Shape, table: &mut T) -> Stepped
         requires relies { Relies T.shows T.serves shape.now table.old self.old.side.known.view }
@@ -172,13 +172,13 @@ impl Worker {
         let stage = self.stage;
         let kind = stage.kind(&self.machine);
         let done = match stage {
-            Stage::Idle | Stage::Spent => unreachable!(),
-            Stage::Scan { watch, seen } => scanning::scan(self, shape, table, watch, seen),
-            Stage::Open { opening, plan } => {
+            KeyStage::Idle | KeyStage::Spent => unreachable!(),
+            KeyStage::Scan { watch, seen } => scanning::scan(self, shape, table, watch, seen),
+            KeyStage::Open { opening, plan } => {
                 swapping::open(self, shape, table, opening, plan);
                 None
             }
-            Stage::Swap { number, plan } => swapping::swap(self, shape, table, number, plan),
+            KeyStage::Swap { number, plan } => swapping::swap(self, shape, table, number, plan),
         };
         Stepped { kind, done }
     }

@@ -6,7 +6,7 @@ use Rattle.rh_world.specs.World.Cell.{desc, mark, plain}
 use Rattle.rh_world.specs.World.Control.{failed, succeeded, undecided, unused}
 use Rattle.rh_world.specs.Logical.{EntryStandsFor, IsLogical, StandsFor, Takes, changed_by, entry_value}
 use Rattle.rh_world.specs.Facts.{HoldsIn, Fact, part_of}
-use Rattle.rh_world.specs.Facts.Part.{of_acts}
+use Rattle.rh_world.specs.Facts.RulePart.{of_acts}
 use Rattle.rh_world.specs.Later.{Later}
 use Rattle.rh_world.specs.Sides.{Side, open_side, place_side}
 use Rattle.rh_world.specs.Rows.{ByOwner, Rows}

@@ -7,26 +7,26 @@ use Rattle.rh_world.specs.Facts.{HoldsIn, Fact}
 use Rattle.rh_world.specs.Facts.Fact.{size_is}
 use Rattle.rh_world.specs.Sides.{AtRest, Side}
 use Rattle.rh_world.specs.Moves.{IsAllowed, IsRowFact, side_after, sides_after, world_after}
-use Rattle.rh_world.specs.Ends.{AllAtRest, Runs, Turn, start_sides, start_world}
+use Rattle.rh_world.specs.Ends.{AllAtRest, Runs, WorldTurn, start_sides, start_world}
 use Rattle.rh_world.specs.Ends.Runs.{goes, rests}
 use Rattle.rh_world.specs.Example.{ARunToASuccess, first, helped_run}
 use Rattle.rh_world.proofs.Tests.{both}
 use Rattle.rh_world.proofs.Updated.{same_nat, updated_else}
 
 -- the world and the Sides after the turns, whether they were allowed or not
-abbrev world_at : World → (ℕ → Side) → List Turn → World
+abbrev world_at : World → (ℕ → Side) → List WorldTurn → World
 world_at w side [] = w
 world_at w side (t ∷ ts) = world_at (world_after w t.who t.move) (sides_after w side t.who t.move) ts
 
-abbrev sides_at : World → (ℕ → Side) → List Turn → ℕ → Side
+abbrev sides_at : World → (ℕ → Side) → List WorldTurn → ℕ → Side
 sides_at w side [] = side
 sides_at w side (t ∷ ts) = sides_at (world_after w t.who t.move) (sides_after w side t.who t.move) ts
 
-abbrev AreAllowed : World → (ℕ → Side) → List Turn → Type 0
+abbrev AreAllowed : World → (ℕ → Side) → List WorldTurn → Type 0
 AreAllowed w side [] = Unit {0}
 AreAllowed w side (t ∷ ts) = IsAllowed w side t.who t.move × AreAllowed (world_after w t.who t.move) (sides_after w side t.who t.move) ts
 
-runs_of : (w : World) (side : ℕ → Side) (ts : List Turn) → AreAllowed w side ts
+runs_of : (w : World) (side : ℕ → Side) (ts : List WorldTurn) → AreAllowed w side ts
     → Runs w side ts (world_at w side ts) (sides_at w side ts)
 runs_of w side [] a = rests
 runs_of w side (t ∷ ts) a = goes t.who t.move a.0 (runs_of (world_after w t.who t.move) (sides_after w side t.who t.move) ts a.1)
@@ -140,11 +140,11 @@ are_allowed = (
 )
 
 -- whether each turn is of a worker below n; the others then stay as they were
-abbrev are_below : ℕ → List Turn → Bool
+abbrev are_below : ℕ → List WorldTurn → Bool
 are_below n [] = true
 are_below n (t ∷ ts) = nat_le (suc t.who) n && are_below n ts
 
-others_stay : (w : World) (side : ℕ → Side) (ts : List Turn) (n u : ℕ) → are_below n ts ≡ true → n ≤ u
+others_stay : (w : World) (side : ℕ → Side) (ts : List WorldTurn) (n u : ℕ) → are_below n ts ≡ true → n ≤ u
     → sides_at w side ts u ≡ side u
 others_stay w side [] n u b l = refl
 others_stay w side (t ∷ ts) n u b l =

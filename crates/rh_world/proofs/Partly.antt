@@ -3,7 +3,7 @@
 use Rattle.std.proofs.Common.{◌≡◌, ℕ}
 use Rattle.rh_world.specs.World.{World}
 use Rattle.rh_world.specs.Facts.{HoldsIn, Fact, part_of}
-use Rattle.rh_world.specs.Facts.Part.{of_acts, of_prefixes, of_rows}
+use Rattle.rh_world.specs.Facts.RulePart.{of_acts, of_prefixes, of_rows}
 use Rattle.rh_world.specs.Sides.{Side}
 use Rattle.rh_world.specs.Rows.{Rows}
 use Rattle.rh_world.specs.Acts.{Acts}

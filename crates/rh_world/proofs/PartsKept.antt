@@ -5,7 +5,7 @@ use Rattle.rh_world.specs.World.Cell.{desc, mark, plain}
 use Rattle.rh_world.specs.World.Control.{failed, succeeded, undecided, unused, withdrawn}
 use Rattle.rh_world.specs.Logical.{entry_value}
 use Rattle.rh_world.specs.Facts.{HoldsIn, IsMismatch, Fact, part_of}
-use Rattle.rh_world.specs.Facts.Part.{of_acts, of_prefixes}
+use Rattle.rh_world.specs.Facts.RulePart.{of_acts, of_prefixes}
 use Rattle.rh_world.specs.Later.{Steady}
 use Rattle.rh_world.specs.Sides.{Side, claim_side, close_side, forget_side, note_side, open_side, paid_side, place_side, read_side, release_side, settle_side}
 use Rattle.rh_world.specs.Rows.{ByOwner, Rows}

@@ -5,7 +5,7 @@ use Rattle.rh_world.specs.World.Cell.{plain}
 use Rattle.rh_world.specs.World.Control.{failed, undecided, unused}
 use Rattle.rh_world.specs.Logical.{StandsFor}
 use Rattle.rh_world.specs.Facts.{HoldsIn, IsMismatch, IsPrefix, Fact, part_of}
-use Rattle.rh_world.specs.Facts.Part.{of_prefixes}
+use Rattle.rh_world.specs.Facts.RulePart.{of_prefixes}
 use Rattle.rh_world.specs.Later.{Steady}
 use Rattle.rh_world.specs.Sides.{KeptRead, Side, open_side, read_side}
 use Rattle.rh_world.specs.Rows.{Rows}

@@ -5,7 +5,7 @@ use Rattle.rh_world.specs.World.Cell.{desc, mark, plain}
 use Rattle.rh_world.specs.World.Control.{succeeded, undecided, unused}
 use Rattle.rh_world.specs.Later.{Steady}
 use Rattle.rh_world.specs.Sides.{Debt, Side}
-use Rattle.rh_world.specs.Rows.{ByDebt, ByOwner, ByPlacer, DescInCell, Opened, Owed, Owing, Rows}
+use Rattle.rh_world.specs.Rows.{ByDebt, ByOwner, ByPlacer, DescInCell, Opened, OwesEntry, Owing, Rows}
 use Rattle.rh_world.specs.Moves.{cell_world, claim_world, decide_world, succeed_world}
 use Rattle.rh_world.proofs.Laters.{steady_cell, steady_claim, steady_decide, steady_succeed}
 use Rattle.rh_world.proofs.Stays.{rows_fact_stays}
@@ -34,14 +34,14 @@ module _ (w v : World) (side side' : ℕ → Side) (l : Steady w v) where
       → ((u p e : ℕ) → (side u).current ≡ Some p → In e (side' u).released → In e (side u).released)
       → ((u m : ℕ) → (side u).unsettled ≡ Some m → (side' u).unsettled ≡ Some m)
       → ((u : ℕ) (q : Debt) → In q (side u).debts → In q (side' u).debts)
-      → (d : Ref) (e c : ℕ) → Owed w side d e c → Owed v side' d e c
+      → (d : Ref) (e c : ℕ) → OwesEntry w side d e c → OwesEntry v side' d e c
   owed_stay owing current released unsettled debts d e c o = ⊎_elim
       (λ (b : ByOwner side d e). inl record { current = current d.worker d.number b.current; unreleased = λ r. b.unreleased (released d.worker d.number e b.current r) })
       (λ p. inr (⊎_elim
       (λ (b : ByPlacer w side d e). let h = owing.unsettled b.who b.unsettled in inl record { who = b.who; unsettled = unsettled b.who.worker b.who.number b.unsettled; mark_desc = l.mark_desc b.who h ∙ b.mark_desc; mark_entry = l.mark_entry b.who h ∙ b.mark_entry })
       (λ (b : ByDebt side d c). inr record { who = b.who; debt = debts b.who record { desc = d; cell = c } b.debt }) p)) o
 
-  pub desc_stays : (c : ℕ) (d : Ref) (t : DescInCell w side c d) → Owed v side' d t.entry c → DescInCell v side' c d
+  pub desc_stays : (c : ℕ) (d : Ref) (t : DescInCell w side c d) → OwesEntry v side' d t.entry c → DescInCell v side' c d
   desc_stays c d t o = record {
     opened = l.opened d t.opened;
     entry = t.entry;
@@ -71,7 +71,7 @@ pub rows_cell : (w : World) (side : ℕ → Side) (c : ℕ) (k : Cell) → Stead
     → Rows (cell_world w c k) side
 rows_cell w side c k l clean new rows =
     let v : World = cell_world w c k in
-    let owed : (d : Ref) (e j : ℕ) → Owed w side d e j → Owed v side d e j = owed_stay w v side side l rows.owing (λ u p q. q) (λ u p e q r. r) (λ u m q. q) (λ u q h. h) in
+    let owed : (d : Ref) (e j : ℕ) → OwesEntry w side d e j → OwesEntry v side d e j = owed_stay w v side side l rows.owing (λ u p q. q) (λ u p e q r. r) (λ u m q. q) (λ u q h. h) in
     record {
       descriptors = opened_stay w v side side l rows.descriptors (λ d h. h) (λ u. refl) (λ u. refl) (λ u. refl);
       owing = record {
@@ -115,7 +115,7 @@ rows_frame : (w : World) (side : ℕ → Side) (v : World) → v.cell ≡ w.cell
     → ((f : Ref) → IsOpened (v.control f) → IsOpened (w.control f)) → ((u : ℕ) → v.next_number u ≡ w.next_number u)
     → ((u : ℕ) → v.marks_used u ≡ w.marks_used u) → Steady w v → Rows w side → Rows v side
 rows_frame w side v cells back numbers marks l rows =
-    let owed : (d : Ref) (e j : ℕ) → Owed w side d e j → Owed v side d e j = owed_stay w v side side l rows.owing (λ u p q. q) (λ u p e q r. r) (λ u m q. q) (λ u q h. h) in
+    let owed : (d : Ref) (e j : ℕ) → OwesEntry w side d e j → OwesEntry v side d e j = owed_stay w v side side l rows.owing (λ u p q. q) (λ u p e q r. r) (λ u m q. q) (λ u q h. h) in
     let same : (j : ℕ) → v.cell j ≡ w.cell j = λ j. ap (λ (f : ℕ → Cell). f j) cells in
     let fewer : (x : Ref) → IsUsed v x → IsUsed w x = λ x h. subst (λ (n : ℕ). x.number < n) (marks x.worker) h in
     record {

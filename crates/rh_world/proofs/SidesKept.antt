@@ -4,9 +4,9 @@ use Rattle.rh_world.specs.World.{In, IsDecided, IsOpened, IsUsed, Ref, World, is
 use Rattle.rh_world.specs.World.Cell.{desc, mark}
 use Rattle.rh_world.specs.World.Control.{undecided, unused}
 use Rattle.rh_world.specs.Facts.{HoldsIn, Fact, part_of}
-use Rattle.rh_world.specs.Facts.Part.{of_rows}
+use Rattle.rh_world.specs.Facts.RulePart.{of_rows}
 use Rattle.rh_world.specs.Sides.{Debt, KeptRead, Side, close_side, forget_side, note_side, open_side, paid_side, place_side, release_side, settle_side}
-use Rattle.rh_world.specs.Rows.{ByDebt, ByOwner, ByPlacer, MarkInCell, Opened, Owed, Rows}
+use Rattle.rh_world.specs.Rows.{ByDebt, ByOwner, ByPlacer, MarkInCell, Opened, OwesEntry, Rows}
 use Rattle.rh_world.specs.Moves.{Entries, open_world, place_world}
 use Rattle.rh_world.proofs.Conditions.{OpensNext, PlacesNext}
 use Rattle.rh_world.proofs.Laters.{steady_open, steady_place, steady_same}
@@ -18,7 +18,7 @@ module _ (w : World) (side : ℕ → Side) (who : ℕ) (s : Side) (rows : Rows w
   rows_side : Opened w (updated side who s)
       → ((m : ℕ) → s.unsettled ≡ Some m → (side who).unsettled ≡ Some m)
       → ((c : ℕ) (x : Ref) → w.cell c ≡ mark x → x.worker ≡ who → s.unsettled ≡ Some x.number)
-      → ((c : ℕ) (d : Ref) (e : ℕ) → w.cell c ≡ desc d → e < w.size d → w.target d e ≡ c → Owed w side d e c → Owed w (updated side who s) d e c)
+      → ((c : ℕ) (d : Ref) (e : ℕ) → w.cell c ≡ desc d → e < w.size d → w.target d e ≡ c → OwesEntry w side d e c → OwesEntry w (updated side who s) d e c)
       → ((n : Fact) → In n s.facts → part_of n ≡ of_rows → HoldsIn w n) → Rows w (updated side who s)
   rows_side descriptors fewer kept owed facts = record {
     descriptors = descriptors;
@@ -45,7 +45,7 @@ module _ (w : World) (side : ℕ → Side) (who : ℕ) (s : Side) (rows : Rows w
   owed_same : s.current ≡ (side who).current → s.released ≡ (side who).released
       → ((m : ℕ) → (side who).unsettled ≡ Some m → s.unsettled ≡ Some m)
       → ((q : Debt) → In q (side who).debts → In q s.debts)
-      → (d : Ref) (e c : ℕ) → Owed w side d e c → Owed w (updated side who s) d e c
+      → (d : Ref) (e c : ℕ) → OwesEntry w side d e c → OwesEntry w (updated side who s) d e c
   owed_same current released unsettled debts = owed_stay w w side (updated side who s) (steady_same w) rows.owing
       (λ u p q. field_same side who s (λ (t : Side). t.current) current u ∙ q)
       (λ u p e q r. subst (In e) (field_same side who s (λ (t : Side). t.released) released u) r)
@@ -115,13 +115,13 @@ module _ (w : World) (side : ℕ → Side) (who : ℕ) (rows : Rows w side) wher
       rows_side w side who s rows (opened_same w side who s rows refl refl) (λ m h. h)
       (λ c x e p. ap (λ (u : ℕ). (side u).unsettled) (sym p) ∙ (rows.marks c x e).owed)
       (λ j d e h a b o.
-      let owner : ByOwner side d e → Owed w (updated side who s) d e j = λ q. inl record {
+      let owner : ByOwner side d e → OwesEntry w (updated side who s) d e j = λ q. inl record {
         current = field_same side who s (λ (t : Side). t.current) refl d.worker ∙ q.current;
         unreleased = λ r. q.unreleased (subst (In e) (field_same side who s (λ (t : Side). t.released) refl d.worker) r);
       } in ⊎_elim owner
       (λ p. ⊎_elim
       (λ (q : ByPlacer w side d e). inr (inl record { who = q.who; unsettled = field_same side who s (λ (t : Side). t.unsettled) refl q.who.worker ∙ q.unsettled; mark_desc = q.mark_desc; mark_entry = q.mark_entry }))
-      (λ (q : ByDebt side d j). by_side side who s (λ (u : ℕ) (t : Side). (updated side who s u ≡ t) → In (record { desc = d; cell = j }) (side u).debts → Owed w (updated side who s) d e j)
+      (λ (q : ByDebt side d j). by_side side who s (λ (u : ℕ) (t : Side). (updated side who s u ≡ t) → In (record { desc = d; cell = j }) (side u).debts → OwesEntry w (updated side who s) d e j)
       (λ z i. ⊎_elim (λ k. inr (inr record { who = who; debt = subst (λ (t : Side). In (record { desc = d; cell = j }) t.debts) (sym z) (in_filtered keep record { desc = d; cell = j } (side who).debts k i) })) owner (spared j d e h i))
       (λ u n z i. inr (inr record { who = u; debt = subst (λ (t : Side). In (record { desc = d; cell = j }) t.debts) (sym z) i })) q.who refl q.debt) p) o)
       (rows.facts who)

@@ -3,7 +3,7 @@ use Rattle.std.proofs.Common.{ℕ, List}
 use Rattle.rh_world.specs.World.{World}
 use Rattle.rh_world.specs.Sides.{Side}
 use Rattle.rh_world.specs.Rule.{Rule}
-use Rattle.rh_world.specs.Ends.{Runs, Turn}
+use Rattle.rh_world.specs.Ends.{Runs, WorldTurn}
 use Rattle.rh_world.specs.Ends.Runs.{goes, rests}
 use Rattle.rh_world.specs.Laws.{EachStepKeeps, EachStepKeepsActs, EachStepKeepsPrefixes, EachStepKeepsRows, RunsKeep}
 use Rattle.rh_world.proofs.ClaimsKept.{claims_kept}
@@ -29,7 +29,7 @@ each_step_keeps w side who m r may = record {
   claims = claims_kept w side who m r.claims may;
 }
 
-run_keeps : {w v : World} {side then : ℕ → Side} {turns : List Turn} → Runs w side turns v then → Rule w side
+run_keeps : {w v : World} {side then : ℕ → Side} {turns : List WorldTurn} → Runs w side turns v then → Rule w side
     → Rule v then
 run_keeps rests r = r
 run_keeps (goes {w = w} {side = side} who m may run) r = run_keeps run (each_step_keeps w side who m r may)

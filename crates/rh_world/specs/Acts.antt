@@ -6,7 +6,7 @@ use Rattle.rh_world.specs.World.Cell.{desc}
 use Rattle.rh_world.specs.World.Control.{unused, undecided, succeeded, withdrawn, failed}
 use Rattle.rh_world.specs.Logical.{IsLogical, Takes, changed_by}
 use Rattle.rh_world.specs.Facts.{Fact, HoldsIn, part_of}
-use Rattle.rh_world.specs.Facts.Part.{of_acts}
+use Rattle.rh_world.specs.Facts.RulePart.{of_acts}
 use Rattle.rh_world.specs.Sides.{Side}
 use Rattle.rh_world.specs.Rows.{ByOwner}
 

@@ -49,12 +49,12 @@ abbrev pub AllAtRest : (ℕ → Side) → Type 0
 AllAtRest side = (v : ℕ) → AtRest (side v)
 
 -- a step of a worker
-pub record Turn : Type 0 where
+pub record WorldTurn : Type 0 where
   pub who : ℕ
   pub move : Move
 
 -- a run of allowed steps, one after the other, from one world and its Sides to another
-pub data Runs : World → (ℕ → Side) → List Turn → World → (ℕ → Side) → Type 0 where
+pub data Runs : World → (ℕ → Side) → List WorldTurn → World → (ℕ → Side) → Type 0 where
   rests : {w : World} {side : ℕ → Side} → Runs w side [] w side
-  goes : {w v : World} {side then : ℕ → Side} {turns : List Turn} (who : ℕ) (m : Move) → IsAllowed w side who m
+  goes : {w v : World} {side then : ℕ → Side} {turns : List WorldTurn} (who : ℕ) (m : Move) → IsAllowed w side who m
       → Runs (world_after w who m) (sides_after w side who m) turns v then → Runs w side (record { who = who; move = m } ∷ turns) v then

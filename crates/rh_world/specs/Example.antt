@@ -8,7 +8,7 @@ use Rattle.rh_world.specs.Facts.Fact.{size_is}
 use Rattle.rh_world.specs.Sides.{Side}
 use Rattle.rh_world.specs.Moves.{Entries, Move}
 use Rattle.rh_world.specs.Moves.Move.{learns, opens, reads_cell, reads_control, reads_mark_control, places, settles, decides, releases, claims}
-use Rattle.rh_world.specs.Ends.{start_world, start_sides, AllAtRest, Turn, Runs}
+use Rattle.rh_world.specs.Ends.{start_world, start_sides, AllAtRest, WorldTurn, Runs}
 
 -- the three descriptors of worker 0: cells 0 and 1 from 5 to 7 and 8; cell 2 from 5 to 9; cell 2 from 6 to 9
 abbrev pub first : Ref
@@ -36,10 +36,10 @@ mark_b = record { worker = 0; number = 1 }
 abbrev pub mark_c : Ref
 mark_c = record { worker = 1; number = 0 }
 
-abbrev pub turn : ℕ → Move → Turn
+abbrev pub turn : ℕ → Move → WorldTurn
 turn who move = record { who = who; move = move }
 
-abbrev pub helped_run : List Turn
+abbrev pub helped_run : List WorldTurn
 helped_run =
     turn 0 (opens entries_of_first)
     ∷ turn 0 (places first 0)

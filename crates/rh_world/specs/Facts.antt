@@ -64,10 +64,10 @@ HoldsIn w (mismatch d e n) = IsOpened (w.control d) × (w.control d ≡ undecide
 
 -- which part of the rule says that the fact holds
 -- Each fact belongs to one part, so that each part is kept by the parts before it alone.
-pub data Part : Type 0 where
-  of_rows of_acts of_prefixes : Part
+pub data RulePart : Type 0 where
+  of_rows of_acts of_prefixes : RulePart
 
-abbrev pub part_of : Fact → Part
+abbrev pub part_of : Fact → RulePart
 part_of (met d) = of_rows
 part_of (known d) = of_rows
 part_of (size_is d n) = of_rows

@@ -14,7 +14,7 @@ use Rattle.rh_world.specs.Prefixes.{Prefixes, InOrder}
 use Rattle.rh_world.specs.Claims.{Claims}
 use Rattle.rh_world.specs.Rule.{Rule}
 use Rattle.rh_world.specs.Moves.{Move, IsAllowed, released_cell, world_after, sides_after}
-use Rattle.rh_world.specs.Ends.{start_world, start_sides, round_world, round_side, AllAtRest, Turn, Runs}
+use Rattle.rh_world.specs.Ends.{start_world, start_sides, round_world, round_side, AllAtRest, WorldTurn, Runs}
 
 -- Each allowed step keeps the rule, and each part of it by the parts before it. The claims need no other part.
 abbrev pub EachStepKeeps : Type 0
@@ -42,7 +42,7 @@ EachStepIsLater = (w : World) (side : ℕ → Side) (who : ℕ) (m : Move) → R
     → Later w (world_after w who m)
 
 abbrev pub RunsKeep : Type 0
-RunsKeep = (w v : World) (side then : ℕ → Side) (turns : List Turn) → Runs w side turns v then → Rule w side → Rule v then
+RunsKeep = (w v : World) (side then : ℕ → Side) (turns : List WorldTurn) → Runs w side turns v then → Rule w side → Rule v then
 
 -- The start meets the rule, and so does a new round where all are at rest.
 abbrev pub StartMeets : Type 0

@@ -3,7 +3,7 @@
 use Rattle.std.specs.Prelude.{◌≡◌, ℕ, ◌<◌, ◌≤◌, Some, List, [], ◌∷◌}
 use Rattle.rh_world.specs.World.{Ref, World, IsOpened, HasFailed, In}
 use Rattle.rh_world.specs.Facts.{Fact, HoldsIn, IsPrefix, IsMismatch, part_of}
-use Rattle.rh_world.specs.Facts.Part.{of_prefixes}
+use Rattle.rh_world.specs.Facts.RulePart.{of_prefixes}
 use Rattle.rh_world.specs.Sides.{Side, KeptRead}
 
 -- d failed at its entry e: there is a prefix after which the entry's cell did not hold its old value. It lies between the

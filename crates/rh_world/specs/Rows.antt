@@ -3,7 +3,7 @@ use Rattle.std.specs.Prelude.{suc, ◌≡◌, ℕ, ◌<◌, ◌≤◌, ◌⊎◌
 use Rattle.rh_world.specs.World.{Ref, World, IsOpened, IsDecided, IsUsed, In}
 use Rattle.rh_world.specs.World.Cell.{mark, desc}
 use Rattle.rh_world.specs.Facts.{Fact, HoldsIn, part_of}
-use Rattle.rh_world.specs.Facts.Part.{of_rows}
+use Rattle.rh_world.specs.Facts.RulePart.{of_rows}
 use Rattle.rh_world.specs.Sides.{Side}
 
 -- the descriptors of each worker: their numbers lie below its next one, their cells rise, and all but the open one,
@@ -33,8 +33,8 @@ pub record ByDebt (side : ℕ → Side) (d : Ref) (c : ℕ) : Type 0 where
   pub who : ℕ
   pub debt : In (record { desc = d; cell = c }) (side who).debts
 
-abbrev pub Owed : World → (ℕ → Side) → (d : Ref) → (e c : ℕ) → Type 0
-Owed w side d e c = ByOwner side d e ⊎ (ByPlacer w side d e ⊎ ByDebt side d c)
+abbrev pub OwesEntry : World → (ℕ → Side) → (d : Ref) → (e c : ℕ) → Type 0
+OwesEntry w side d e c = ByOwner side d e ⊎ (ByPlacer w side d e ⊎ ByDebt side d c)
 
 -- a mark that stands in cell c: it was placed there, and its placer has not settled it
 pub record MarkInCell (w : World) (side : ℕ → Side) (c : ℕ) (x : Ref) : Type 0 where
@@ -48,7 +48,7 @@ pub record DescInCell (w : World) (side : ℕ → Side) (c : ℕ) (d : Ref) : Ty
   pub entry : ℕ
   pub within : entry < w.size d
   pub here : w.target d entry ≡ c
-  pub owed : Owed w side d entry c
+  pub owed : OwesEntry w side d entry c
 
 pub record Owing (w : World) (side : ℕ → Side) : Type 0 where
   pub used : (x : Ref) → IsUsed w x → IsOpened (w.control (w.mark_desc x)) × (w.mark_entry x < w.size (w.mark_desc x))

@@ -10,7 +10,7 @@ use rh_cli::Status;
 use rh_combine::How;
 use rh_forks::{Team, Workers};
 use rh_key_commands::line::Combination;
-use rh_keys_program::{Fault, Line, bytes_of, times_named, with_path, workers_of};
+use rh_keys_program::{Fault, ProgressLine, bytes_of, times_named, with_path, workers_of};
 use rh_list_commands::{Job, Output, combine_files};
 use rh_shelf::{CountedShelf, FileShelf};
 use std::fs::Files;
@@ -46,7 +46,7 @@ pub fn combine<W: Write + Drop>(
     if times_named(&asked.files) > 1 {
         return Err(Fault::InputTwice);
     }
-    let mut line = Line::new(rt, asked.on_terminal, bytes_of(rt, &asked.files));
+    let mut line = ProgressLine::new(rt, asked.on_terminal, bytes_of(rt, &asked.files));
     let mut shelf = CountedShelf::new(FileShelf::new(rt));
     let mut input = Counted::new(rt.reader());
     let mut writer = Counted::new(writer);

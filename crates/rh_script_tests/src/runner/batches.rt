@@ -16,10 +16,10 @@ impl KeySource for Noting<'_> {
 
     ghost left_of = { λ list. length (rest_of list.keys) };
 
-    ghost told_by = { λ _. None };
+    ghost failed_with = { λ _. None };
 
-    fn left(&self) -> u64 {
-        self.keys.left()
+    fn keys_left(&self) -> u64 {
+        self.keys.keys_left()
     }
 
     fn next_keys(&mut self, batch: &mut [u64]) -> Result<usize, KeyFault> {

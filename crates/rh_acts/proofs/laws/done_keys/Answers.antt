@@ -1,5 +1,5 @@
 use Rattle.rh_acts.proofs.DoneLemmas.{one_more, more_read}
-use Rattle.rh_acts.proofs.Told.{told_is_changed}
+use Rattle.rh_acts.proofs.Changing.{answers_count_changes}
 use Rattle.rh_acts.proofs.laws.done_keys.Goals as goal
 
 pub returns-clause-one_more : goal.returns-clause-one_more
@@ -8,5 +8,5 @@ returns-clause-one_more c = one_more
 pub returns-clause-more_read : goal.returns-clause-more_read
 returns-clause-more_read c = more_read
 
-pub returns-clause-told : goal.returns-clause-told
-returns-clause-told c = told_is_changed
+pub returns-clause-answers : goal.returns-clause-answers
+returns-clause-answers c = answers_count_changes

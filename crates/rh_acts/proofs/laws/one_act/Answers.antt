@@ -1,5 +1,5 @@
 use Rattle.rh_acts.proofs.OneAct.{insert_act, remove_act, absence_act}
-use Rattle.rh_acts.proofs.Told.{does_told}
+use Rattle.rh_acts.proofs.Changing.{answer_is_change}
 use Rattle.rh_acts.proofs.laws.one_act.Goals as goal
 
 pub returns-clause-insert : goal.returns-clause-insert
@@ -11,5 +11,5 @@ returns-clause-remove c = remove_act
 pub returns-clause-absence : goal.returns-clause-absence
 returns-clause-absence c = absence_act
 
-pub returns-clause-told : goal.returns-clause-told
-returns-clause-told c = does_told
+pub returns-clause-is_change : goal.returns-clause-is_change
+returns-clause-is_change c = answer_is_change

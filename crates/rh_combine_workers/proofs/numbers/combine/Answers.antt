@@ -23,5 +23,5 @@ returns g c =
     let enough : parts_of cut ≤ workers * size = omega (arith, parts, times.0, c.div_ceil-size.ensures, mul_comm workers size, ap (λ n. n * workers) c.div_ceil-size.ensures) in
     IfOk-weaker c.join_shares.result _ _
     (λ v is. is ∙ ap (flat_map (λ k. k.items)) c.deref.ensures.value
-    ∙ all_shares (λ k. k.items) c.args.how cut lists are size workers c.in_ok-shares.shares.items c.in_ok-told.told.items c.in_ok-shares.ensures c.in_ok-told.ensures.len c.in_ok-told.ensures.each enough
+    ∙ all_shares (λ k. k.items) c.args.how cut lists are size workers c.in_ok-shares.shares.items c.in_ok-tried.tried.items c.in_ok-shares.ensures c.in_ok-tried.ensures.len c.in_ok-tried.ensures.each enough
     ∙ whole) c.join_shares.ensures

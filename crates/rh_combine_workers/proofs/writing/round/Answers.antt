@@ -23,7 +23,7 @@ returns-in_err-write_groups g c =
     record {
       text = λ lists are.
           let bytes = ap (flat_map (λ x. x.bytes.items)) c.deref.ensures.value
-          ∙ round_bytes c.args.wanted c.args.cut.now lists are c.args.first c.args.size c.args.team.now.workers.count c.requires c.in_ok-done.done.items c.in_ok-told.told.items c.in_ok-done.ensures c.in_ok-told.ensures.len c.in_ok-told.ensures.each in
+          ∙ round_bytes c.args.wanted c.args.cut.now lists are c.args.first c.args.size c.args.team.now.workers.count c.requires c.in_ok-done.done.items c.in_ok-tried.tried.items c.in_ok-done.ensures c.in_ok-tried.ensures.len c.in_ok-tried.ensures.each in
           rw p.1 (subst (AppendsFront _ _) bytes c.in_err-write_groups.ensures.front);
       count = search rules;
       counts = search rules;
@@ -33,11 +33,11 @@ pub returns : goal.returns
 returns g c = record {
   text = λ lists are.
       let bytes = ap (flat_map (λ x. x.bytes.items)) c.deref.ensures.value
-      ∙ round_bytes c.args.wanted c.args.cut.now lists are c.args.first c.args.size c.args.team.now.workers.count c.requires c.in_ok-done.done.items c.in_ok-told.told.items c.in_ok-done.ensures c.in_ok-told.ensures.len c.in_ok-told.ensures.each in
+      ∙ round_bytes c.args.wanted c.args.cut.now lists are c.args.first c.args.size c.args.team.now.workers.count c.requires c.in_ok-done.done.items c.in_ok-tried.tried.items c.in_ok-done.ensures c.in_ok-tried.ensures.len c.in_ok-tried.ensures.each in
       subst (Appends _ _) bytes c.in_ok-write_groups.ensures.appended;
   count = λ lists are.
       let count = ap (sum_by (λ x. x.count)) c.deref-2.ensures.value
-      ∙ round_count c.args.wanted c.args.cut.now lists are c.args.first c.args.size c.args.team.now.workers.count c.requires c.in_ok-done.done.items c.in_ok-told.told.items c.in_ok-done.ensures c.in_ok-told.ensures.len c.in_ok-told.ensures.each in
+      ∙ round_count c.args.wanted c.args.cut.now lists are c.args.first c.args.size c.args.team.now.workers.count c.requires c.in_ok-done.done.items c.in_ok-tried.tried.items c.in_ok-done.ensures c.in_ok-tried.ensures.len c.in_ok-tried.ensures.each in
       c.count_of.ensures ∙ ap (λ n. min n (2 ^ 64 - 1)) count;
   counts = search rules;
 }

@@ -18,7 +18,7 @@ made c =
     starts c.args.kind c.args.shape c.args.cells.now c.args.keys.items c.args.shares.now c.in_ok-opening.opening.items c.in_ok-words.words.items c.deref.result.now
     c.resize.new.self.items c.in_ok-answers.answers.items c.in_ok-hands.hands.items c.requires.workers c.requires.opening c.requires.room c.requires.keys
     c.requires.dealt (c.in_ok-opening.ensures.items_if_clones_equal (λ x y e. e)) c.in_ok-words.ensures c.deref.ensures.value c.words-room.result c.words-room.ensures c.in_ok-words.words.len
-    c.in_ok-words.words.ok.0 c.in_ok-resize.ensures.items (c.in_ok-answers.ensures.items_if_clones_equal (none_alone _ (λ told e. e)) ∙ ap (λ (n : ℕ). replicate n None) (c.len.ensures ∙ c.args.keys.ok.0))
+    c.in_ok-words.words.ok.0 c.in_ok-resize.ensures.items (c.in_ok-answers.ensures.items_if_clones_equal (none_alone _ (λ answer e. e)) ∙ ap (λ (n : ℕ). replicate n None) (c.len.ensures ∙ c.args.keys.ok.0))
     c.in_ok-hands.ensures.shares c.in_ok-hands.ensures.new
 
 pub plain_words-requires : goal.plain_words-requires

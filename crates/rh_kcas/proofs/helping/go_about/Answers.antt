@@ -4,7 +4,7 @@ use Rattle.rh_helping.specs.Work.{Stands}
 use Rattle.rh_helping.proofs.Growing.{known_sub}
 use Rattle.rh_shared.proofs.Lending.{stays_first, stays_on}
 use Rattle.rh_swaps.proofs.Noting.{made_notes, noted_first, noted_on}
-use Rattle.rh_kcas.proofs.Helped.{told_over}
+use Rattle.rh_kcas.proofs.Helped.{over_as_read}
 use Rattle.rh_kcas.proofs.helping.go_about.Goals as goal
 
 pub loop-init : goal.loop-init
@@ -38,7 +38,7 @@ returns-in-Spent-clause-helps g c = record {
 pub returns-then-is_over-clause-helps : goal.returns-then-is_over-clause-helps
 returns-then-is_over-clause-helps g c = record {
   noted = noted_on _ _ _ (noted_on _ _ _ c.loop.invariant.noted (made_notes _ _ _ _ _ _ c.in-Over.ensures.made)) c.state.ensures.facts;
-  decided_so = inl (told_over c.state.new.side.known.view _ c.state.result c.state.ensures.told (sym c.is_over.ensures ∙ c.if-is_over.true));
+  decided_so = inl (over_as_read c.state.new.side.known.view _ c.state.result c.state.ensures.stands (sym c.is_over.ensures ∙ c.if-is_over.true));
 }
 
 pub loop-preserved : goal.loop-preserved

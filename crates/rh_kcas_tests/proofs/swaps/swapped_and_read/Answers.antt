@@ -20,8 +20,8 @@ read-requires-clause-cell g c =
 
 back : (law : OwnChangesAreRead) (z : Shape) (es : List Entry) (e : ℕ) (v then next : View) → AreEntries z es → e < length es → Swaps z es v then Done → RuleTells z next
     → (r : Option ℕ) → HasReadCell z (entry_of es e).cell then next r → IfSome r (ReadsBack z es e v next)
-back law z es e v then next fits within swaps told None read = tt
-back law z es e v then next fits within swaps told (Some word) read = (told, law told.w z told.keep told.side told.told es e word v then next fits within swaps read told.within told.is)
+back law z es e v then next fits within swaps rule_tells None read = tt
+back law z es e v then next fits within swaps rule_tells (Some word) read = (rule_tells, law rule_tells.w z rule_tells.keep rule_tells.side rule_tells.tells es e word v then next fits within swaps read rule_tells.within rule_tells.is)
 
 pub returns-in-Done-clause-reads_back : goal.returns-in-Done-clause-reads_back
 returns-in-Done-clause-reads_back g c =
@@ -29,4 +29,4 @@ returns-in-Done-clause-reads_back g c =
     let read = subst (λ (x : Entry). HasReadCell z x.cell (view_of c.kcas.new.seat) (view_of c.read.new.seat) c.read.result)
     (sym (entry_is c.args.entries.now c.args.entry no_entry c.requires.entry)) c.read.ensures.reads in
     back c.own_changes_are_read.ensures z c.args.entries.now c.args.entry (view_of c.args.seat.now) (view_of c.kcas.new.seat) (view_of c.read.new.seat) c.requires.entries c.requires.entry
-    c.in-Done.ensures.swaps c.read.ensures.told c.read.result read
+    c.in-Done.ensures.swaps c.read.ensures.rule_tells c.read.result read

@@ -9,8 +9,8 @@ use Rattle.rh_rdcss.proofs.calls.status.Goals as goal
 pub returns-clause-seen : goal.returns-clause-seen
 returns-clause-seen c =
     let v = view_of c.args.seat.now in
-    subst (λ (u : View). SeenAs (ref_of c.args.desc) c.status_told.result u.side.facts) (sym c.make-word.ensures.learned.view_is)
-    (seen_as v.side (ref_of c.args.desc) c.make-word.result c.status_told.result c.status_told.ensures)
+    subst (λ (u : View). SeenAs (ref_of c.args.desc) c.status_by.result u.side.facts) (sym c.make-word.ensures.learned.view_is)
+    (seen_as v.side (ref_of c.args.desc) c.make-word.result c.status_by.result c.status_by.ensures)
 
 pub returns-clause-unsettled : goal.returns-clause-unsettled
 returns-clause-unsettled c =

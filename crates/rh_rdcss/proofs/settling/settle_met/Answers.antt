@@ -4,7 +4,7 @@ use Rattle.rh_helping.specs.Machine.{left_on, settling_of}
 use Rattle.rh_helping.specs.Settling.{GoesOn, LeadsOn}
 use Rattle.rh_helping.proofs.Requesting.{made_settled, may_ask_mark}
 use Rattle.rh_shared.specs.Seats.{view_of}
-use Rattle.rh_rdcss.specs.Settling.Runs.{goes, left, settled}
+use Rattle.rh_rdcss.specs.Settling.RunsSettling.{goes, left, settled}
 use Rattle.rh_rdcss.proofs.MarksMet.{is_read, learned_as}
 use Rattle.rh_rdcss.proofs.settling.settle_met.Goals as goal
 

@@ -5,7 +5,7 @@ use Rattle.rh_shared.specs.Seats.{IsHere, IsSame, sitter_of, view_of}
 use Rattle.rh_helping.specs.Machine.{settling_of}
 use Rattle.rh_helping.specs.Next.Settles.{Desc}
 use Rattle.rh_helping.specs.Settling.{IsSettling}
-use Rattle.rh_rdcss.specs.Settling.{Runs}
+use Rattle.rh_rdcss.specs.Settling.{RunsSettling}
 use Rattle.rh_rdcss.proofs.MarksMet.{stages_left}
 use Rattle.rh_rdcss.proofs.settling.settle_met.Given as goal
 
@@ -15,7 +15,7 @@ invariant-loop-settling l = record {
   same : IsSame l.fn.seat l.seat;
   knows : Knows l.table.shape (view_of l.seat);
   settling : IsSettling (view_of l.seat) (settling_of l.settling);
-  runs : (r : Option ℕ) (next : Sitter) → Runs l.table.shape (settling_of l.settling) (sitter_of l.seat) r next → Runs l.table.shape (Desc l.fn.mark l.fn.cell) (sitter_of l.fn.seat) r next;
+  runs : (r : Option ℕ) (next : Sitter) → RunsSettling l.table.shape (settling_of l.settling) (sitter_of l.seat) r next → RunsSettling l.table.shape (Desc l.fn.mark l.fn.cell) (sitter_of l.fn.seat) r next;
 }
 
 abbrev pub decreases-loop-settling : goal.decreases-loop-settling

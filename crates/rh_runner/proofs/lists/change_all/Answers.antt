@@ -13,21 +13,21 @@ change-requires-clause-room g c =
 
 pub unwrap-tally-requires : goal.unwrap-tally-requires
 unwrap-tally-requires g c =
-    let next : Ran c.args.kind c.args.scratch.now.bits (take c.in_ok-n.n c.next_keys.new.batch) c.loop-room.cells.items c.change.new.cells.items c.in_ok-told.told =
-    record { layout = c.in_ok-told.ensures.layout; held = c.in_ok-told.ensures.keys; tally = c.in_ok-told.ensures.tally } in
+    let next : Ran c.args.kind c.args.scratch.now.bits (take c.in_ok-n.n c.next_keys.new.batch) c.loop-room.cells.items c.change.new.cells.items c.in_ok-more.more =
+    record { layout = c.in_ok-more.ensures.layout; held = c.in_ok-more.ensures.keys; tally = c.in_ok-more.ensures.tally } in
     c.joined.ensures.fits.1
     (tally_fits (more_ran c.loop-room.invariant.2 next)
-    (simp (length-append, length-take) (omega (arith, c.loop-room.invariant.1.long, c.in_ok-n.ensures.left, c.left-most.ensures, c.left-most.type_inv))))
+    (simp (length-append, length-take) (omega (arith, c.loop-room.invariant.1.long, c.in_ok-n.ensures.left, c.keys_left-most.ensures, c.keys_left-most.type_inv))))
 
 pub loop-room-preserved : goal.loop-room-preserved
 loop-room-preserved g c =
-    let next : Ran c.args.kind c.args.scratch.now.bits (take c.in_ok-n.n c.next_keys.new.batch) c.loop-room.cells.items c.change.new.cells.items c.in_ok-told.told =
-    record { layout = c.in_ok-told.ensures.layout; held = c.in_ok-told.ensures.keys; tally = c.in_ok-told.ensures.tally } in
+    let next : Ran c.args.kind c.args.scratch.now.bits (take c.in_ok-n.n c.next_keys.new.batch) c.loop-room.cells.items c.change.new.cells.items c.in_ok-more.more =
+    record { layout = c.in_ok-more.ensures.layout; held = c.in_ok-more.ensures.keys; tally = c.in_ok-more.ensures.tally } in
     let ran = more_ran c.loop-room.invariant.2 next in
     let sums = rw c.unwrap-tally.ensures at c.joined.ensures.sums in (
       _,
       more_came c.loop-room.invariant.1 _ c.next_keys.new.batch _ c.in_ok-n.n c.in_ok-n.ensures.gives c.if-n-eq0.false c.in_ok-n.ensures.room c.in_ok-n.ensures.left c.in_ok-n.ensures.in_range,
       record { layout = ran.layout; held = ran.held; tally = sums ∙ ran.tally },
-      c.in_ok-told.ensures.starts.fine ∙ c.loop-room.invariant.3,
+      c.in_ok-more.ensures.starts.fine ∙ c.loop-room.invariant.3,
       c.in_ok-n.ensures.fine ∙ c.loop-room.invariant.4,
     )

@@ -9,7 +9,7 @@ invariant-loop-room g l =
     × Came (g.K.KeySource.coming l.fn.keys) (g.K.KeySource.coming l.keys) (g.K.KeySource.left_of l.fn.keys) (g.K.KeySource.left_of l.keys) done
     × Ran l.kind l.fn.scratch.bits done l.fn.scratch.cells.items l.cells.items l.tally
     × (g.N.Runner.refused_starts l.runner ≡ g.N.Runner.refused_starts l.fn.runner)
-    × (g.K.KeySource.told_by l.keys ≡ g.K.KeySource.told_by l.fn.keys)
+    × (g.K.KeySource.failed_with l.keys ≡ g.K.KeySource.failed_with l.fn.keys)
 
 abbrev pub decreases-loop-room : goal.decreases-loop-room
 decreases-loop-room g l = g.K.KeySource.left_of l.keys

@@ -5,7 +5,7 @@ use Rattle.rh_numbers.specs.declared.limits.TheConstants.{MAX_BYTES, PART_BYTES}
 use Rattle.rh_numbers.specs.Parts.{keys_read, line_reached, so_far_of}
 use Rattle.rh_numbers.proofs.Parts.{GoesOn}
 use Rattle.rh_numbers.proofs.Taken.{Fresh}
-use Rattle.rh_splitting.specs.Splitting.{Puts, SayFirst}
+use Rattle.rh_splitting.specs.Splitting.{PutsKeys, SayFirst}
 use Rattle.rh_splitting.proofs.Given.{both_given}
 use Rattle.rh_splitting.proofs.Texts.{part_first, refused_key, still_fresh, takes_all, takes_part, text_ends, text_goes_on, text_stops, text_too_long}
 use Rattle.rh_splitting.proofs.splitting.split_text.Goals as goal
@@ -18,7 +18,7 @@ returns-in_err-split_keys-clause-split g c =
     let next = c.read_part-outcome.new.self in
     let first : SayFirst start (given.0 ++ keys_read next) =
     part_first start _ _ (8192 * c.loop.counter) given.0 c.loop.reading next c.read_part-outcome.result given.1 c.loop.invariant.none c.read_part-outcome.ensures.part in
-    let puts : Puts {X = Unit {0}} g.W.Write.contents c.loop.parts c.split_keys.new.parts (keys_read next) (Err c.in_err-split_keys.field-0.0) = search rules in
+    let puts : PutsKeys {X = Unit {0}} g.W.Write.contents c.loop.parts c.split_keys.new.parts (keys_read next) (Err c.in_err-split_keys.field-0.0) = search rules in
     rw (p.1, p.2) (refused_key (Unit {0}) start (g.R.Read.remaining (inner_of c.read_part-outcome.new.reader)) g.W.Write.contents c.args.parts.now c.loop.parts c.split_keys.new.parts given.0 (keys_read next) c.in_err-split_keys.field-0.0 given.3 first puts)
 
 pub returns-in_err-split_keys-clause-takes : goal.returns-in_err-split_keys-clause-takes

@@ -15,6 +15,6 @@ returns-in-On g c =
     let e = c.look_on.ensures in record {
       stays = record { stays = stays_on _ _ _ m.steps.stays e.stays.stays; trusts = e.stays.trusts };
       clear = e.clear;
-      told = e.told;
+      rule_tells = e.rule_tells;
       reads = seen_later _ _ _ _ _ _ (made_notes _ _ _ _ _ _ m) e.reads;
     }

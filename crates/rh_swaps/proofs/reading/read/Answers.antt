@@ -16,5 +16,5 @@ returns g c =
       };
       acts = made_same c.args.seat.now.side.known.view c.look.new.side.known.view r.worker r.facts e.stays.knows.sound.one_result c.requires.rests.rested r.opened;
       reads = r;
-      told = e.told;
+      rule_tells = e.rule_tells;
     }

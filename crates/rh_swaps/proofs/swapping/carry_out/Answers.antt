@@ -9,7 +9,7 @@ use Rattle.rh_helping.specs.Machine.{led, work_of}
 use Rattle.rh_helping.specs.Stepping.{HasGoneOn}
 use Rattle.rh_helping.specs.Work.{Leads, Stands}
 use Rattle.rh_helping.proofs.Owing.{open_all_noted}
-use Rattle.rh_shared.specs.Sits.{Sits, Stays, Steps}
+use Rattle.rh_shared.specs.Sits.{Sits, Stays, SeatSteps}
 use Rattle.rh_shared.proofs.Lending.{stays_first, stays_on}
 use Rattle.rh_swaps.specs.Swaps.{HasNoted}
 use Rattle.rh_swaps.proofs.Noting.{closes, made_notes, noted_first, noted_on}
@@ -45,7 +45,7 @@ returns-in-Some-Closed g c =
     let l = c.loop in
     let n = c.step_fast.new in
     closes l.invariant.stays l.invariant.noted (subst
-    (λ (p : Progress). HasGoneOn Sits Steps c.args.shape.now (opened_by (Some c.args.own)) (work_of l.machine) l.here l.side.known.view (led p n.self) n.table n.side.known.view)
+    (λ (p : Progress). HasGoneOn Sits SeatSteps c.args.shape.now (opened_by (Some c.args.own)) (work_of l.machine) l.here l.side.known.view (led p n.self) n.table n.side.known.view)
     c.in-Some-Closed.field-0-is c.in-Some-Closed.ensures.goes)
 
 pub returns-in-None-step_fast : goal.returns-in-None-step_fast
@@ -56,7 +56,7 @@ returns-in-None-step_fast g c =
     let stays = subst (Stays c.args.here.now) (sym same.1) h.stays in
     let e = c.carry_on_copy.ensures in record {
       stays = record { stays = stays_on _ _ _ stays e.stays.stays; trusts = e.stays.trusts };
-      told = e.told;
+      rule_tells = e.rule_tells;
       noted = noted_on _ _ _ noted e.noted;
       clear = e.clear;
       result = e.result;

@@ -25,7 +25,7 @@ loop-preserved g c =
           claims = claims_on z n then (view_of c.next_key.new.seat) (view_of c.do_in_buffer.new.seat) next.works.hand.claims c.count.ensures.ended e.ends.claims;
         };
         stands = λ past was. stands_done z keys past n then (view_of c.next_key.new.seat) (view_of c.do_in_buffer.new.seat) was key
-            (among keys n.position key (next.works.hand.within has) refl) refl c.count.ensures.kind e.ends.claims e.ends.opening has c.in-Some-do_in_buffer.told e.ends.furthers
+            (among keys n.position key (next.works.hand.within has) refl) refl c.count.ensures.kind e.ends.claims e.ends.opening has c.in-Some-do_in_buffer.answer e.ends.furthers
             c.count.ensures.no_key c.count.ensures.done c.count.ensures.changed c.count.ensures.found;
       }));
     }

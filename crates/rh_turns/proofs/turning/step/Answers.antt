@@ -13,7 +13,7 @@ returns-in-Some-clause-hand c =
       kind_is = c.step-stepped.ensures.keeps.kind ∙ c.requires.hand.kind_is;
       share = share_done c.args.shape.now c.args.keys.now c.args.hand.now _ c.requires.busy c.step-stepped.ensures.makes.claims c.args.hand.now.share refl refl refl idle c.requires.hand.share;
       key = inl idle;
-      some = byte_small c.in-Some.told c.from.result c.args.hand.now.changed c.args.hand.now.done c.from.ensures c.requires.hand.some;
+      some = byte_small c.in-Some.answer c.from.result c.args.hand.now.changed c.args.hand.now.done c.from.ensures c.requires.hand.some;
     }
 
 pub returns-in_default-clause-hand : goal.returns-in_default-clause-hand
@@ -37,13 +37,13 @@ returns-in-Some-clause-steps c =
       within = at.within;
       next_key = next_of c.args.shape.now c.args.keys.now h c.requires.busy h.share c.requires.hand.share;
       makes = makes_so _ _ _ _ _ _ c.step-stepped.ensures.makes;
-      done = Some c.in-Some.told;
-      advances = subst (λ (k : ℕ). Advances c.args.shape.now h.worker.kind k h.worker.side.known.view c.step-stepped.new.self.side.known.view (Some c.in-Some.told)) (sym at.key)
+      done = Some c.in-Some.answer;
+      advances = subst (λ (k : ℕ). Advances c.args.shape.now h.worker.kind k h.worker.side.known.view c.step-stepped.new.self.side.known.view (Some c.in-Some.answer)) (sym at.key)
           (subst (λ (d : Option Bool). Advances c.args.shape.now h.worker.kind h.worker.key h.worker.side.known.view c.step-stepped.new.self.side.known.view d) c.in-Some.is c.step-stepped.ensures.advances);
       gives_up = c.step-stepped.ensures.gives_up;
       share = refl;
-      counts = (refl, ap (λ (n : ℕ). h.changed + n) (c.from.ensures ∙ byte_is c.in-Some.told));
-      told_is = ap (λ (p : ℕ). set c.args.answers.now p (Some c.in-Some.told)) c.position-position.ensures;
+      counts = (refl, ap (λ (n : ℕ). h.changed + n) (c.from.ensures ∙ byte_is c.in-Some.answer));
+      answers_are = ap (λ (p : ℕ). set c.args.answers.now p (Some c.in-Some.answer)) c.position-position.ensures;
     }
 
 pub returns-in_default-clause-steps : goal.returns-in_default-clause-steps
@@ -61,7 +61,7 @@ returns-in_default-clause-steps c =
       gives_up = c.step-stepped.ensures.gives_up;
       share = refl;
       counts = (refl, refl);
-      told_is = refl;
+      answers_are = refl;
     }
 
 pub step-stepped-requires-clause-relies : goal.step-stepped-requires-clause-relies

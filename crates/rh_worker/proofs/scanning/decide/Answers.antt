@@ -2,17 +2,17 @@ use Rattle.std.proofs.Common.{ℕ, List, length-take, rules, subst, sym, take, a
 use Rattle.rh_helping.specs.declared.looking.Watch.TheVariants as watch
 use Rattle.rh_worker.specs.Worker.{Stays}
 use Rattle.rh_worker.specs.Reading.{HasScanned, seen_at}
-use Rattle.rh_worker.specs.declared.stage.Stage.{Stage}
-use Rattle.rh_worker.specs.declared.stage.Stage.TheVariants as stage
+use Rattle.rh_worker.specs.declared.stage.KeyStage.{KeyStage}
+use Rattle.rh_worker.specs.declared.stage.KeyStage.TheVariants as stage
 use Rattle.rh_worker.proofs.Anew.{front_read, left_off}
-use Rattle.rh_worker.proofs.Scans.{none_seen, seen_again, told_is}
+use Rattle.rh_worker.proofs.Scans.{none_seen, seen_again, as_read_is}
 use Rattle.rh_worker.proofs.scanning.decide.Goals.{then-count-cells, else-count-cells}
 use Rattle.rh_worker.proofs.scanning.decide.Goals as goal
 
-pub returns-in-Done-clause-told : goal.returns-in-Done-clause-told
-returns-in-Done-clause-told c =
+pub returns-in-Done-clause-answer : goal.returns-in-Done-clause-answer
+returns-in-Done-clause-answer c =
     let w = c.args.worker.now in
-    told_is w.kind c.args.shape.now w.side.known.view w.key (take c.args.count w.buffer.seen.items) c.decide-decision.new.self.entries.items c.in-Done.answer
+    as_read_is w.kind c.args.shape.now w.side.known.view w.key (take c.args.count w.buffer.seen.items) c.decide-decision.new.self.entries.items c.in-Done.answer
     (omega (arith, length-take c.args.count w.buffer.seen.items)) c.requires.were_read c.in-Done.ensures.decides
 
 pub returns-after-count-cells-clause-worker : goal.returns-after-count-cells-clause-worker
@@ -54,7 +54,7 @@ returns-after-count-cells-clause-anew c before h =
     let v = w.side.known.view in
     let t = c.decide-decision.new.self in
     let same = c.in-More.ensures.seen in (
-      subst (λ (p : Stage). HasScanned z before v w.key t.seen.items (seen_at p)) (sym c.reading-worker.ensures) (elim c.if-count-cells.branch [
+      subst (λ (p : KeyStage). HasScanned z before v w.key t.seen.items (seen_at p)) (sym c.reading-worker.ensures) (elim c.if-count-cells.branch [
         | then-count-cells b ↦ subst (HasScanned z before v w.key t.seen.items) (sym b.seen-is) (subst (λ (l : List ℕ). HasScanned z before v w.key l c.args.count) (sym same) h)
         | else-count-cells b ↦ subst (HasScanned z before v w.key t.seen.items) (sym b.seen-is) (left_off z before v w.key w.buffer.seen.items t.seen.items c.args.count h)
       ]),

@@ -1,6 +1,6 @@
 use Rattle.std.proofs.Common.{ap, inl, inr, subst, sym, take}
 use Rattle.rh_worker.specs.Reading.{HasScanned, seen_at}
-use Rattle.rh_worker.specs.declared.stage.Stage.{Stage}
+use Rattle.rh_worker.specs.declared.stage.KeyStage.{KeyStage}
 use Rattle.rh_worker.proofs.Anew.{kept_alike, none_read}
 use Rattle.rh_worker.proofs.CloseStep.{does_same, failure_stays, opens_same, still_open, success_stays, swap_fails, swap_spends, swap_succeeds, swap_withdraws}
 use Rattle.rh_worker.proofs.swapping.swap.Goals as goal
@@ -92,5 +92,5 @@ pub returns-in-Closed-Failed-clause-anew : goal.returns-in-Closed-Failed-clause-
 returns-in-Closed-Failed-clause-anew g c before h =
     let w = c.args.worker.now in
     let z = c.args.shape.now in
-    subst (λ (p : Stage). HasScanned z before c.step_own.new.side.known.view w.key w.buffer.seen.items (seen_at p)) (sym c.reading-worker.ensures)
+    subst (λ (p : KeyStage). HasScanned z before c.step_own.new.side.known.view w.key w.buffer.seen.items (seen_at p)) (sym c.reading-worker.ensures)
     (none_read z before w.side.known.view c.step_own.new.side.known.view w.key w.buffer.seen.items 0 (kept_alike z w.side.known.view c.step_own.new.side.known.view c.in-Closed-Failed.ensures.made.reads) h)

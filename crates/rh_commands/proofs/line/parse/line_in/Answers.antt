@@ -1,7 +1,7 @@
 use Rattle.std.proofs.Common.{◌≡◌, inl, inr, List, Some, option_map, arith}
 use Rattle.clap.specs.Words.{Row, Text}
 use Rattle.rh_commands.specs.Line.{IsCommand}
-use Rattle.rh_arguments.proofs.CommandLemmas.{name_told}
+use Rattle.rh_arguments.proofs.CommandLemmas.{name_found}
 use Rattle.rh_commands.proofs.line.parse.line_in.Goals as goal
 use Rattle.rh_commands.proofs.line.parse.line_in.Goals.{in_default-via-in-Some+in_default, in_default-via-in_default}
 
@@ -9,7 +9,7 @@ use Rattle.rh_commands.proofs.line.parse.line_in.Goals.{in_default-via-in-Some+i
 pub unreachable-requires : goal.unreachable-requires
 unreachable-requires c =
     let named : (row : Text × List Row) × (option_map (λ p. p.0.now) c.subcommand.result ≡ Some row.0) × IsCommand row.0 row.1 =
-    name_told IsCommand c.args.matches.now _ c.subcommand.ensures.name c.requires in
+    name_found IsCommand c.args.matches.now _ c.subcommand.ensures.name c.requires in
     elim c.in_default.branch [
       | in_default-via-in-Some+in_default w ↦ elim named.2 [
         | inl dump ↦ grind (arith, named.1, dump, w.in_default.is)

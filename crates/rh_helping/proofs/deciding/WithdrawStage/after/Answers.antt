@@ -13,7 +13,7 @@ pub start-requires : goal.start-requires
 start-requires g c = let f = c.requires in record {
   between = record { trusts = c.requires.trusts; own = own_saw _ _ _ (Some c.in-Some.state) (opened_by c.args.opens) (saw_decided f.before (ref_of c.args.machine.now.task.desc) Withdrawn tt tt c.args.found f.finds (inl (inl (own_open _ _ f.knows _ f.own c.args.machine.now.task.desc.number f.stands.2 _ (sym f.stands.1)))) (Some c.in-Some.state) (c.in-Some.ensures ∙ ap (state_said c.args.machine.now.task.desc.number) c.decided_word.ensures) _ _ f.view_is).0 f.own };
   owes = nothing_saw _ _ _ (Some c.in-Some.state) (saw_decided f.before (ref_of c.args.machine.now.task.desc) Withdrawn tt tt c.args.found f.finds (inl (inl (own_open _ _ f.knows _ f.own c.args.machine.now.task.desc.number f.stands.2 _ (sym f.stands.1)))) (Some c.in-Some.state) (c.in-Some.ensures ∙ ap (state_said c.args.machine.now.task.desc.number) c.decided_word.ensures) _ _ f.view_is).0 f.stands.0;
-  met = (saw_decided f.before (ref_of c.args.machine.now.task.desc) Withdrawn tt tt c.args.found f.finds (inl (inl (own_open _ _ f.knows _ f.own c.args.machine.now.task.desc.number f.stands.2 _ (sym f.stands.1)))) (Some c.in-Some.state) (c.in-Some.ensures ∙ ap (state_said c.args.machine.now.task.desc.number) c.decided_word.ensures) _ _ f.view_is).0.told;
+  met = (saw_decided f.before (ref_of c.args.machine.now.task.desc) Withdrawn tt tt c.args.found f.finds (inl (inl (own_open _ _ f.knows _ f.own c.args.machine.now.task.desc.number f.stands.2 _ (sym f.stands.1)))) (Some c.in-Some.state) (c.in-Some.ensures ∙ ap (state_said c.args.machine.now.task.desc.number) c.decided_word.ensures) _ _ f.view_is).0.said;
 }
 
 pub unreachable-requires : goal.unreachable-requires

@@ -13,8 +13,8 @@ use Rattle.rh_helping.proofs.Owing.{nothing_saw}
 use Rattle.rh_helping.proofs.Starting.{own_saw}
 use Rattle.rh_helping.proofs.machine.Machine.after_decide.Goals as goal
 
-pub state_told-requires : goal.state_told-requires
-state_told-requires g c = let f = c.requires.follows in subst IsControlWord (sym f.control_is) (is_word f.before (ref_of c.args.self.now.task.desc) f.state f.over f.fits f.word f.finds)
+pub state_by-requires : goal.state_by-requires
+state_by-requires g c = let f = c.requires.follows in subst IsControlWord (sym f.control_is) (is_word f.before (ref_of c.args.self.now.task.desc) f.state f.over f.fits f.word f.finds)
 
 pub begin-requires : goal.begin-requires
 begin-requires g c =
@@ -31,7 +31,7 @@ pub resume-requires-clause-owes : goal.resume-requires-clause-owes
 resume-requires-clause-owes g c = let f = c.requires.follows in nothing_saw _ _ _ None (saw_decided f.before (ref_of c.args.self.now.task.desc) f.state f.over f.fits f.word f.finds (task_known _ _ f.knows c.args.self.now.task f.task) None (c.in-None.ensures ∙ ap (state_said c.args.self.now.task.desc.number) f.control_is) _ _ f.view_is).0 f.owes
 
 pub returns-in-None : goal.returns-in-None
-returns-in-None g c = λ w same. let f = c.requires.follows in record { same = refl; leads = c.resume.ensures.leads _; ends = c.resume.ensures.ends w (inr (subst (λ d. In (stale (ref_of d)) c.args.side.now.known.view.side.facts) (sym same) (saw_decided f.before (ref_of c.args.self.now.task.desc) f.state f.over f.fits f.word f.finds (task_known _ _ f.knows c.args.self.now.task f.task) None (c.in-None.ensures ∙ ap (state_said c.args.self.now.task.desc.number) f.control_is) _ _ f.view_is).0.told.1)) }
+returns-in-None g c = λ w same. let f = c.requires.follows in record { same = refl; leads = c.resume.ensures.leads _; ends = c.resume.ensures.ends w (inr (subst (λ d. In (stale (ref_of d)) c.args.side.now.known.view.side.facts) (sym same) (saw_decided f.before (ref_of c.args.self.now.task.desc) f.state f.over f.fits f.word f.finds (task_known _ _ f.knows c.args.self.now.task f.task) None (c.in-None.ensures ∙ ap (state_said c.args.self.now.task.desc.number) f.control_is) _ _ f.view_is).0.said.1)) }
 
 pub returns-in-Some : goal.returns-in-Some
 returns-in-Some g c = λ w same. c.begin.ensures w

@@ -2,7 +2,7 @@ use Rattle.std.proofs.Common.{◌≡◌, inl, inr, List, Some, option_map, arith
 use Rattle.clap.specs.Words.{Row, Text}
 use Rattle.rh_key_commands.specs.Line.{IsKeysCommand}
 use Rattle.rh_key_commands.specs.declared.line.asked.Combination.TheVariants.{Intersect, Union, Subtract, Xor}
-use Rattle.rh_arguments.proofs.CommandLemmas.{name_told}
+use Rattle.rh_arguments.proofs.CommandLemmas.{name_found}
 use Rattle.rh_key_commands.proofs.line.parse.line_in.Goals as goal
 use Rattle.rh_key_commands.proofs.line.parse.line_in.Goals.{in_default-via-in-Some+in_default, in_default-via-in_default}
 
@@ -10,7 +10,7 @@ use Rattle.rh_key_commands.proofs.line.parse.line_in.Goals.{in_default-via-in-So
 pub unreachable-requires : goal.unreachable-requires
 unreachable-requires c =
     let named : (row : Text × List Row) × (option_map (λ p. p.0.now) c.subcommand.result ≡ Some row.0) × IsKeysCommand row.0 row.1 =
-    name_told IsKeysCommand c.args.matches.now _ c.subcommand.ensures.name c.requires in
+    name_found IsKeysCommand c.args.matches.now _ c.subcommand.ensures.name c.requires in
     elim c.in_default.branch [
       | in_default-via-in-Some+in_default w ↦ elim named.2 [
         | inl (Intersect, is, workers) ↦ grind (arith, named.1, is, w.in_default.is)

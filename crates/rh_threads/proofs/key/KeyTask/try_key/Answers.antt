@@ -1,7 +1,7 @@
 use Rattle.std.proofs.Common.{ℕ, suc, ◌∙◌, ap, length-take-le, take, arith}
 use Rattle.rh_order.specs.History.{act_of}
 use Rattle.rh_worker.proofs.OpenStep.{are_entries, rising_of}
-use Rattle.rh_threads.proofs.Keying.{done_on, done_told, swap_done, swap_failed, swap_given_up, undone_on}
+use Rattle.rh_threads.proofs.Keying.{done_on, done_as_read, swap_done, swap_failed, swap_given_up, undone_on}
 use Rattle.rh_threads.proofs.key.KeyTask.try_key.Goals as goal
 
 pub kcas-requires-clause-entries : goal.kcas-requires-clause-entries
@@ -18,7 +18,7 @@ kcas-requires-clause-entries g c =
 pub returns-in-Done-clause-tries : goal.returns-in-Done-clause-tries
 returns-in-Done-clause-tries g c =
     let e = c.in-Done.ensures.scans in
-    done_told e.undone e.leads.0 e.leads.1
+    done_as_read e.undone e.leads.0 e.leads.1
 
 pub returns-in-Done-kcas-clause-tries : goal.returns-in-Done-kcas-clause-tries
 returns-in-Done-kcas-clause-tries g c =

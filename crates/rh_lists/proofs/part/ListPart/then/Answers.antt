@@ -1,5 +1,5 @@
 use Rattle.rh_lists.proofs.Joining.{one_behind_the_other}
-use Rattle.rh_lists.proofs.part.Part.then.Goals as goal
+use Rattle.rh_lists.proofs.part.ListPart.then.Goals as goal
 
 pub returns-clause-read : goal.returns-clause-read
 returns-clause-read c = λ so_far front back first second.

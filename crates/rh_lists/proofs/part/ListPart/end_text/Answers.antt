@@ -3,7 +3,7 @@ use Rattle.rh_numbers.specs.Chunks.{ended}
 use Rattle.rh_numbers.specs.Reading.{text_said}
 use Rattle.rh_pieces.specs.Pieces.{keys_in}
 use Rattle.rh_lists.proofs.Ending.{end_said, key_told, line_refused, refused_here}
-use Rattle.rh_lists.proofs.part.Part.end_text.Goals as goal
+use Rattle.rh_lists.proofs.part.ListPart.end_text.Goals as goal
 
 pub returns-in-Bad-clause-told : goal.returns-in-Bad-clause-told
 returns-in-Bad-clause-told c = λ bytes read.

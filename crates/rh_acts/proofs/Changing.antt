@@ -1,4 +1,4 @@
--- Which acts change a cell, and that so many keys are told as changed.
+-- Which acts change a cell, and that the answers count them.
 use Rattle.std.proofs.Common.{◌≡◌, ◌≢◌, ℕ, suc, ◌-◌, ◌^◌, ◌<◌, inl, inr, refl, sym, ap, ◌∙◌, subst, arith, ne_eqb, length, get_or, List, [], ◌∷◌, Bool, true, false, cond, zero-add}
 use Rattle.std.specs.Prelude.{nat_eq, not}
 use Rattle.std.specs.List.{Contains, count_by, sum_by}
@@ -19,7 +19,7 @@ use Rattle.rh_layout.specs.declared.entry.Entry.{Entry}
 use Rattle.rh_acts.specs.Act.{entry, Act, changes}
 use Rattle.rh_acts.specs.Done.{Kept, KeyDone, IsDone}
 use Rattle.rh_acts.specs.KeyActs.{IsFrontAct, IsInsertAct, IsRemoveAct, IsAbsenceAct}
-use Rattle.rh_acts.specs.Laws.{ActsAreTold, ToldIsChanged}
+use Rattle.rh_acts.specs.Laws.{AnswerIsChange, AnswersCountChanges}
 use Rattle.rh_acts.specs.Workers.{how_many}
 
 test_differ : (o n : ℕ) → (o ≡ n → ⊥) → not (nat_eq o n) ≡ true
@@ -71,26 +71,26 @@ absence_changes b k act none = list_any_none (λ (e : Entry). not (nat_eq e.old 
     let got = (none.1).front.only (get_or act i d) (Contains-get_or act i d l) in
     test_same (get_or act i d).old (get_or act i d).new (ap (λ (x : Entry). x.old) got.2 ∙ sym (ap (λ (x : Entry). x.new) got.2)))
 
-pub does_told : ActsAreTold
-does_told Insert b k true act does = insert_changes b k act does
-does_told Insert b k false act does = absurd does
-does_told Remove b k true act does = remove_changes b k act does
-does_told Remove b k false act does = absence_changes b k act does
-does_told Ask b k told act does = absurd does
+pub answer_is_change : AnswerIsChange
+answer_is_change Insert b k true act does = insert_changes b k act does
+answer_is_change Insert b k false act does = absurd does
+answer_is_change Remove b k true act does = remove_changes b k act does
+answer_is_change Remove b k false act does = absence_changes b k act does
+answer_is_change Ask b k answer act does = absurd does
 
--- ---- what is told of keys
+-- ---- the answers
 
-pub as_many_told : (kind : Kind) (b : ℕ) (reads : List Kept) (keys : List ℕ) (acts : List Act) (told : List Bool) → IsDone kind b reads keys acts told → length told ≡ length keys
-as_many_told kind b reads [] acts told done = ap length done.1
-as_many_told kind b reads (k ∷ keys) acts told done = ap length done.5 ∙ ap suc (as_many_told kind b reads keys done.1 done.3 done.7)
+pub as_many_answers : (kind : Kind) (b : ℕ) (reads : List Kept) (keys : List ℕ) (acts : List Act) (answers : List Bool) → IsDone kind b reads keys acts answers → length answers ≡ length keys
+as_many_answers kind b reads [] acts answers done = ap length done.1
+as_many_answers kind b reads (k ∷ keys) acts answers done = ap length done.5 ∙ ap suc (as_many_answers kind b reads keys done.1 done.3 done.7)
 
--- what each key is told counts its acts, and so it does for all
-pub told_counts : (g : Act → ℕ) (kind : Kind) (b : ℕ) (reads : List Kept) (keys : List ℕ) (acts : List Act) (told : List Bool)
+-- the answer of each key counts its acts, and so they do for all
+pub answers_count : (g : Act → ℕ) (kind : Kind) (b : ℕ) (reads : List Kept) (keys : List ℕ) (acts : List Act) (answers : List Bool)
     → ((k : ℕ) (first : List Act) (so : Bool) → KeyDone kind b reads k first so → cond so 1 0 ≡ sum_by g first)
-    → IsDone kind b reads keys acts told → how_many told ≡ sum_by g acts
-told_counts g kind b reads [] acts told one done = ap how_many done.1 ∙ sym (ap (sum_by g) done.0)
-told_counts g kind b reads (k ∷ keys) acts told one done =
-    let rest = told_counts g kind b reads keys done.1 done.3 one done.7 in
+    → IsDone kind b reads keys acts answers → how_many answers ≡ sum_by g acts
+answers_count g kind b reads [] acts answers one done = ap how_many done.1 ∙ sym (ap (sum_by g) done.0)
+answers_count g kind b reads (k ∷ keys) acts answers one done =
+    let rest = answers_count g kind b reads keys done.1 done.3 one done.7 in
     let head = one k done.0 done.2 done.6 in
     omega (arith, ap how_many done.5, sum_by-cons (λ (so : Bool). cond {A = ℕ} so 1 0) done.2 done.3, head, rest, ap (sum_by g) done.4, sum_by-append g done.0 done.1)
 
@@ -98,13 +98,13 @@ act_counts : (act : Act) (so : Bool) → changes act ≡ so → cond so 1 0 ≡ 
 act_counts act so is = ap (λ (t : Bool). cond {A = ℕ} t 1 0) (sym is) ∙ sym (zero-add (cond {A = ℕ} (changes act) 1 0))
 
 pub key_counts : (kind : Kind) (b : ℕ) (reads : List Kept) (k : ℕ) (first : List Act) (so : Bool) → kind ≢ Ask → KeyDone kind b reads k first so → cond so 1 0 ≡ count_by changes first
-key_counts kind b reads k first so changed (inl by) = act_counts by.act so (does_told kind b k so by.act by.does) ∙ ap (count_by changes) (sym by.only)
+key_counts kind b reads k first so changed (inl by) = act_counts by.act so (answer_is_change kind b k so by.act by.does) ∙ ap (count_by changes) (sym by.only)
 key_counts Insert b reads k first so changed (inr by) = ap (λ (t : Bool). cond {A = ℕ} t 1 0) by.tells.0 ∙ ap (count_by changes) (sym by.none)
 key_counts Remove b reads k first so changed (inr by) = absurd by.tells
 key_counts Ask b reads k first so changed (inr by) = absurd (changed refl)
 
-pub told_is_changed : ToldIsChanged
-told_is_changed kind b reads keys acts told done = (
-  as_many_told kind b reads keys acts told done,
-  λ changed. told_counts (λ a. cond (changes a) 1 0) kind b reads keys acts told (λ k first so one. key_counts kind b reads k first so changed one) done,
+pub answers_count_changes : AnswersCountChanges
+answers_count_changes kind b reads keys acts answers done = (
+  as_many_answers kind b reads keys acts answers done,
+  λ changed. answers_count (λ a. cond (changes a) 1 0) kind b reads keys acts answers (λ k first so one. key_counts kind b reads k first so changed one) done,
 )
