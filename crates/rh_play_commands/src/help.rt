@@ -86,12 +86,13 @@ write, open, read, place, settle, decide, release or claim. PART is the word tha
   serial W, length W          the number of that descriptor, and of its entries
   entry W E cell, old or new  of its entry E the cell, the old and the new word
   mark W serial, desc, entry  the number of a mark of worker W, its descriptor and its entry
-  note W O                    what worker W tells worker O: where its descriptor failed
+  reason W O                  the reason of worker W to worker O: where its descriptor failed
   counter                     how many keys of a shared list were claimed
 
-A WORD is `empty`, `key K`, `mark W N` or `desc W N` in a cell and in an entry; `N undecided`,
-`N succeeded`, `N withdrawn` or `N failed D`, by worker D, in a control; `desc W N` as the
-descriptor of a mark; else a number. `rhplay play` writes the same lines without those of steps.
+A WORD is `empty`, `key K`, `mark W N` or `desc W N` in a cell and in an entry; `N unused`,
+`N undecided`, `N succeeded`, `N withdrawn` or `N failed D`, by worker D, in a control; `desc W N`
+as the descriptor of a mark; else a number. `rhplay play` writes the same lines without those of
+steps.
 
 Example, of a play in which worker 0 adds the key 9 to an empty table of 8 cells; its first step:
   1 0 read cell 4 found empty";

@@ -49,7 +49,7 @@ pub const RUN_AT_LENGTH: &str = "\
 Reads a script, carries out its commands one after another on one table, which is empty at first,
 and writes a report of each to standard output. Every byte of it, and of each snapshot, is the same
 for any number of workers, which change the table at once, each in a thread. With more than one a
-command needs more memory, up to 23 MB for each worker, and the run ends with status 3 where a
+command needs more memory, up to 12 MB for each worker, and the run ends with status 3 where a
 thread cannot be started.";
 
 /// The argument `--workers`.

@@ -25,7 +25,8 @@ Exit status:
   1  the input was refused
   2  the command line was refused
   3  out of memory
-  4  the output could not be written";
+  4  the output could not be written
+  141  nobody reads any more what is written";
 
 /// The command `intersect`.
 pub const INTERSECT: Texts = Texts {
@@ -92,9 +93,9 @@ after it. A line with no more than spaces is skipped, and so is one that begins 
 come in any order and any number of times. A line may end with CR LF; the last may lack its LF.
 
 Nothing is written where a list is refused: the first one that is is told, with its first bad line.
-The lists are held in memory, at most 24 bytes for each number of all lists and 32 MB. Larger ones
-are split first: see `rhkeys split --help`. On a terminal, work of more than a second tells how far
-it is.";
+The lists are held in memory: at most 24 bytes for each number of all lists, 32 MB, and 8 MB for
+each worker. Larger ones are split first: see `rhkeys split --help`. On a terminal, work of more
+than a second tells how far it is.";
 
 /// The command `pack`, in a line.
 pub const PACK: &str = "Writes the key file of the numbers of a text";
@@ -157,7 +158,7 @@ pub const PARTS: &str =
     "Number of parts, up to 1000; where it is 0, the size of the input says how many there are";
 
 /// The flag `--key-file`.
-pub const KEY_FILE: &str = "Read a key file in place of a text";
+pub const KEY_FILE: &str = "Read a key file of at most 1000000 keys in place of a text";
 
 /// The flag `--plan`.
 pub const PLAN: &str =
@@ -173,11 +174,11 @@ are the parts of what it makes of the lists: `rhkeys list --snapshot` of the par
 all of its keys, in the order of the parts, and `sort -n` puts them in rising order. Lists that
 belong together are split into the same number of parts.
 
-A part has at most 1000000 keys, and a script makes no table for more than 196608. `--plan` has no
-such limit: after `keys` it tells how many keys there are, and after `parts` into how many parts
-they go so that each has about 150000. Without `--parts` there are as many for the size of the
-input: one for each 1050000 bytes of a text, or 1200000 of a key file. That takes a file; of a pipe
-the size is not known.
+A part has at most 1000000 keys, and a script makes no table for more than 196608. For `--plan` a
+part may have more: after `keys` it tells how many keys there are, and after `parts` into how many
+parts they go so that each has about 150000. Without `--parts` there are as many for the size of
+the input: one for each 1050000 bytes of a text, or 1200000 of a key file. That takes a file; of a
+pipe the size is not known.
 
 The files are written beside their places and put there once all are whole; on a fault none of them
 is left. Each part has an open file meanwhile: see `ulimit -n`.
