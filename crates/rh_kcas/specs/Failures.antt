@@ -13,7 +13,7 @@ use Rattle.rh_rule.specs.Rest.{WorldTells}
 use Rattle.rh_helping.specs.Opening.{next_own}
 use Rattle.rh_helping.specs.declared.machine.Ended.TheVariants as ended
 use Rattle.rh_carrier.specs.Relies.{Knows}
-use Rattle.rh_swaps.specs.Swaps.{RestSpec}
+use Rattle.rh_swaps.specs.Swaps.{HasEndedSo}
 
 -- A worker of whom v was kept asked for a swap of these entries, which failed at entry e. After so many acts the entry's cell
 -- did not hold its old value. Among these are all acts that the worker had made, and no other one of it. They are not fewer
@@ -28,6 +28,6 @@ pub record HasFailedSo (w : World) (side : ℕ → Side) (es : List Entry) (v : 
 -- So it is at the end of the call and at any later moment of the round, of which the rule tells.
 abbrev pub FailuresTell : Type 0
 FailuresTell = (w : World) (z : Shape) (keep : ℕ → View) (side : ℕ → Side) (world_tells : WorldTells w z keep side) (es : List Entry) (v next : View) (e : ℕ)
-    → v.worker < z.workers → Knows z v → next.worker ≡ v.worker → RestSpec es v next (ended.Failed e)
+    → v.worker < z.workers → Knows z v → next.worker ≡ v.worker → HasEndedSo es v next (ended.Failed e)
     → ((n : Fact) → In n next.side.facts → In n (keep v.worker).side.facts) → In (next_own v es) (keep v.worker).opened
     → HasFailedSo w side es v e (world_tells.foretold.failed_acts (own_ref v v.next_number))

@@ -16,7 +16,7 @@ use Rattle.rh_helping.specs.Opening.{next_own}
 use Rattle.rh_carrier.specs.Relies.{Knows}
 use Rattle.rh_shared.specs.Rests.{IsRested}
 use Rattle.rh_shared.specs.declared.on_table.OnTable.{OnTable}
-use Rattle.rh_swaps.specs.Swaps.{BecameOf, HasCarriedOut, HasOpened, RestSpec, Swaps}
+use Rattle.rh_swaps.specs.Swaps.{BecameOf, HasCarriedOut, HasOpened, HasEndedSo, Swaps}
 use Rattle.rh_swaps.specs.declared.swapping.Outcome.{Outcome}
 use Rattle.rh_swaps.proofs.Carried.{made_more, over_more}
 
@@ -33,7 +33,7 @@ ended_noted v d (Failed e) h = (failed 0 h.0.0, h.0.1, refl)
 
 pub record IsSwapped (z : Shape) (es : List Entry) (v next : View) (k : Ended) : Type 0 where
   pub rested : IsRested next
-  pub so : RestSpec es v next k
+  pub so : HasEndedSo es v next k
   pub acts : made next ≡ cond (has_succeeded k) (next_own v es ∷ made v) (made v)
   pub spends : k ≡ Withdrawn → z.rooms.marks ≤ next.marks_used
   pub opening : next.opening ≡ v.opening

@@ -56,7 +56,7 @@ pub record HasCarriedOut (z : Shape) (own : OwnDesc) (t : OnTable) (v : View) (k
   pub entry : FailsWithin (length own.entries) k
 
 -- it opened a descriptor of these entries, which ended so: where it failed, at one of them
-pub record RestSpec (es : List Entry) (v next : View) (k : Ended) : Type 0 where
+pub record HasEndedSo (es : List Entry) (v next : View) (k : Ended) : Type 0 where
   pub opened : next.opened ≡ next_own v es ∷ v.opened
   pub next_number : next.next_number ≡ suc v.next_number
   pub result : HasEnded next (own_ref next v.next_number) k
@@ -64,7 +64,7 @@ pub record RestSpec (es : List Entry) (v next : View) (k : Ended) : Type 0 where
 
 -- it opened no descriptor, or one of these entries, which it withdrew
 abbrev pub HasGivenUp : List Entry → (v next : View) → Type 0
-HasGivenUp es v next = ((next.opened ≡ v.opened) × (next.next_number ≡ v.next_number)) ⊎ RestSpec es v next ended.Withdrawn
+HasGivenUp es v next = ((next.opened ≡ v.opened) × (next.next_number ≡ v.next_number)) ⊎ HasEndedSo es v next ended.Withdrawn
 
 -- no number was left for a descriptor, or none is for a mark
 abbrev pub HasNoRoom : Shape → (v next : View) → Type 0
@@ -72,8 +72,8 @@ HasNoRoom z v next = (z.rooms.descriptors ≤ v.next_number) ⊎ (z.rooms.marks 
 
 -- What became of a K-CAS: whether the worker's own acts grew by these entries, in one act, or are the same.
 abbrev pub BecameOf : Shape → List Entry → (v next : View) → Outcome → Type 0
-BecameOf z es v next Done = RestSpec es v next ended.Succeeded × (made next ≡ next_own v es ∷ made v)
-BecameOf z es v next (Failed e) = RestSpec es v next (ended.Failed e) × (made next ≡ made v)
+BecameOf z es v next Done = HasEndedSo es v next ended.Succeeded × (made next ≡ next_own v es ∷ made v)
+BecameOf z es v next (Failed e) = HasEndedSo es v next (ended.Failed e) × (made next ≡ made v)
 BecameOf z es v next Spent = HasNoRoom z v next × HasGivenUp es v next × (made next ≡ made v)
 
 pub record Swaps (z : Shape) (es : List Entry) (v next : View) (o : Outcome) : Type 0 where

@@ -29,7 +29,7 @@ use Rattle.rh_order.specs.Laws.{furthered}
 use Rattle.rh_order.specs.Run.{Progress, ProgressInvariant}
 use Rattle.rh_order.proofs.Stepping.{act_done, none_done, opened_more, opened_same, done_by_reads}
 use Rattle.rh_shared.specs.Rests.{IsRested, StaysAtRest}
-use Rattle.rh_swaps.specs.Swaps.{HasGivenUp, IsSeen, RestSpec, Swaps}
+use Rattle.rh_swaps.specs.Swaps.{HasGivenUp, IsSeen, HasEndedSo, Swaps}
 use Rattle.rh_swaps.specs.Swaps.{HasReadCell as WasRead}
 use Rattle.rh_swaps.specs.Swaps.{HasNoRoom as HadNoRoom}
 use Rattle.rh_shared.specs.Seats.{IsSame}
@@ -204,7 +204,7 @@ module _ {z : Shape} {kind : Kind} {k : ℕ} {v next : View} (rest : IsRested v)
   -- ---- several cells are swapped, in an act that does the key
 
   module _ (es : List Entry) (changes : Bool) (does : Does kind z.bits k changes (act_of es)) {o : Outcome} (s : Swaps z es v next o) where
-    module _ {e : Ended} (is : RestSpec es v next e) (p : Progress) (among : Contains p.keys k) (so_far : ProgressInvariant z kind (record p { view = v })) where
+    module _ {e : Ended} (is : HasEndedSo es v next e) (p : Progress) (among : Contains p.keys k) (so_far : ProgressInvariant z kind (record p { view = v })) where
       orderly : Orderly next
       orderly = orderly_more v next (next_own v es) so_far.orderly rests refl is.opened is.next_number
 
@@ -222,7 +222,7 @@ module _ {z : Shape} {kind : Kind} {k : ℕ} {v next : View} (rest : IsRested v)
       done_so more = act_done kind z (record p { view = v }) next so_far orderly held stay k changes (act_of es) (own_more v next (next_own v es) rest rests more) does
           (opened_more kind z (record p { view = v }) next so_far orderly held stay k among (next_own v es) changes is.opened does)
 
-    pub swap_failed : {e : Ended} → RestSpec es v next e → made next ≡ made v → IsUndone z kind k v next
+    pub swap_failed : {e : Ended} → HasEndedSo es v next e → made next ≡ made v → IsUndone z kind k v next
     swap_failed is same = record {
       own = own_same v next rest rests same;
       since = [];
@@ -232,7 +232,7 @@ module _ {z : Shape} {kind : Kind} {k : ℕ} {v next : View} (rest : IsRested v)
       furthers = λ p among so_far. failed_on is p among so_far same;
     }
 
-    pub swap_done : {e : Ended} → RestSpec es v next e → made next ≡ next_own v es ∷ made v → IsDoneSo z kind k v next changes
+    pub swap_done : {e : Ended} → HasEndedSo es v next e → made next ≡ next_own v es ∷ made v → IsDoneSo z kind k v next changes
     swap_done is more = record {
       claims = s.claims;
       opening = s.opening;
@@ -243,7 +243,7 @@ module _ {z : Shape} {kind : Kind} {k : ℕ} {v next : View} (rest : IsRested v)
     pub swap_given_up : HadNoRoom z v next → HasGivenUp es v next → made next ≡ made v → IsUndone z kind k v next × HasNoRoom z next
     swap_given_up room up same = ⊎_elim
         (λ (none : (next.opened ≡ v.opened) × (next.next_number ≡ v.next_number)). (undone same [] (kept_alike z v next s.reads) s.claims s.opening none.0 none.1, still room (omega (arith, none.1))))
-        (λ (is : RestSpec es v next ended.Withdrawn). (swap_failed is same, still room (let n = is.next_number in omega (arith, n)))) up
+        (λ (is : HasEndedSo es v next ended.Withdrawn). (swap_failed is same, still room (let n = is.next_number in omega (arith, n)))) up
       where
         still : HadNoRoom z v next → v.next_number ≤ next.next_number → HasNoRoom z next
         still had less = ⊎_elim (λ (d : z.rooms.descriptors ≤ v.next_number). inr (omega (arith, d, less))) (λ m. inl m) had
