@@ -215,10 +215,13 @@ fn each_write_fails(rt: HostRuntime) {
 #[test]
 fn a_fault_can_be_printed(rt: HostRuntime) -> Result<(), Fail> {
     for (fault, text) in [
-        (TextFault::NotAKey { line: 7 }, "line 7: not a key"),
+        (
+            TextFault::NotAKey { line: 7 },
+            "line 7: not a number from 0 to 4611686018427387902",
+        ),
         (
             TextFault::OutOfRange { line: 9 },
-            "line 9: key out of range",
+            "line 9: number above 4611686018427387902",
         ),
         (TextFault::TooMany, "more than 1000000 keys"),
         (TextFault::TooLong, "text too long"),

@@ -176,7 +176,10 @@ fn each_write_of_numbers_fails(rt: HostRuntime) {
 #[test]
 fn a_fault_can_be_printed(rt: HostRuntime) -> Result<(), Fail> {
     let text = format!(in rt.alloc(); "{}", PackFault::Text(TextFault::NotAKey { line: 7 }))?;
-    assert_eq!(rt; text.as_str(), "line 7: not a key");
+    assert_eq!(rt;
+        text.as_str(),
+        "line 7: not a number from 0 to 4611686018427387902"
+    );
     let keys = format!(in rt.alloc(); "{}", ListFault::Keys(KeyFault::NotKeys))?;
     assert_eq!(rt; keys.as_str(), "not a key file");
     let held = format!(in rt.alloc(); "{}", HeldFault::Snap(SnapFault::Damaged))?;

@@ -234,7 +234,7 @@ fn a_fault_can_be_printed(rt: HostRuntime) -> Result<(), Fail> {
         ),
         (
             SplitFault::Text(TextFault::NotAKey { line: 7 }),
-            "line 7: not a key",
+            "line 7: not a number from 0 to 4611686018427387902",
         ),
     ] {
         let told = format!(in rt.alloc(); "{fault}")?;

@@ -3,17 +3,17 @@
 ghost use Rattle.std.specs.Prelude.{◌≡◌};
 ghost use Rattle.rh_numbers.specs.declared.fault.TextFault.TheVariants.{Memory};
 
-use rh_layout::MAX_KEYS;
+use rh_layout::{MAX_KEY, MAX_KEYS};
 use std::alloc::AllocError;
 use thiserror::Error;
 
 /// Why a text of numbers could not be read. Lines are numbered from 1.
 #[derive(Clone, Copy, Debug, PartialEq, Eq, Error)]
 pub enum TextFault {
-    #[error("line {line}: not a key")]
+    #[error("line {line}: not a number from 0 to {}", MAX_KEY)]
     NotAKey { line: u64 },
     /// The number is greater than the greatest key, however many digits it has.
-    #[error("line {line}: key out of range")]
+    #[error("line {line}: number above {}", MAX_KEY)]
     OutOfRange { line: u64 },
     #[error("more than {} keys", MAX_KEYS)]
     TooMany,

@@ -19,8 +19,8 @@ pub fn one_meaning(text: &[u8], keys: &[u64])
         IsKeyText (text_of keys.now) keys.now }
 {}
 
-/// The first faulty line gives the fault, with its number: one that the grammar does not know is
-/// not a key; a number above the greatest key is out of range; and after a million keys one more is
+/// The first faulty line gives the fault, with its number: one that the grammar does not know is no
+/// number; a number above the greatest key is out of range; and after a million keys one more is
 /// too many.
 pub fn first_fault(text: &[u8])
     ensures not_a_key { (keys : List ℕ) (number : ℕ) (line : List ℕ) →

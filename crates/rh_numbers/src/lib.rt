@@ -20,9 +20,9 @@
 //!   failed.
 //! - `one_meaning`: what the grammar calls a text of these keys is read to them, what is read is
 //!   such a text, and so is what is written of keys.
-//! - `first_fault`: after whole lines of keys, a line that the grammar does not know gives `not a
-//!   key` with its number. A number above the greatest key gives `out of range`. A key after a
-//!   million gives `more than 1000000 keys`.
+//! - `first_fault`: after whole lines of keys, a line that the grammar does not know gives
+//!   `NotAKey` with its number. A number above the greatest key gives `OutOfRange`. A key after a
+//!   million gives `TooMany`.
 //! - `any_length`: both laws hold of texts of any length, without that limit.
 //! - `text_in_chunks`: a text whose front is whole lines says what the front says, and then what
 //!   the rest says, so many lines later.
