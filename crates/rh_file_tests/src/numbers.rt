@@ -162,13 +162,14 @@ fn each_read_fails(rt: HostRuntime) -> Result<(), Fail> {
 const BEFORE_A_FAILED_READ: &[(&[u8], TextFault)] = &[
     (b"1\nx\n", TextFault::NotAKey { line: 2 }),
     (b"4611686018427387903\n1", TextFault::OutOfRange { line: 1 }),
-    (b"1\nx", TextFault::Read),
+    (b"1\nx", TextFault::NotAKey { line: 2 }),
+    (b"1\n2", TextFault::Read),
     (b"1\n4611686018427387903", TextFault::Read),
     (b"1\n2\n", TextFault::Read),
 ];
 
 #[test]
-fn whole_lines_before_a_failed_read_are_tested(rt: HostRuntime) {
+fn what_comes_before_a_failed_read_is_tested(rt: HostRuntime) {
     for &(text, fault) in BEFORE_A_FAILED_READ {
         let mut reader = Counted::new(FaultyReader::new(text, 2));
         assert_eq!(rt;

@@ -9,7 +9,7 @@ use crate::fault::TextFault;
 use crate::limits::PART_BYTES;
 use crate::line_so_far::LineSoFar;
 use rh_bytes::{Counted, Filled, fill_front};
-use rh_layout::{MAX_KEY, MAX_KEYS};
+use rh_layout::MAX_KEYS;
 use std::alloc::Global;
 use std::io::Read;
 
@@ -33,7 +33,7 @@ impl Reading {
     ghost use Rattle.rh_bytes.specs.Counting.{Counts, inner_of};
     ghost use Rattle.rh_bytes.specs.Input.{fault_of};
     ghost use Rattle.rh_numbers.specs.Parts.{ReadsTextPart, keys_read, line_reached, said_by, so_far_of};
-    ghost use Rattle.rh_numbers.specs.Reading.{NoTextReadFailed, Stops, with_key, with_line};
+    ghost use Rattle.rh_numbers.specs.Reading.{NoTextReadFailed, Stops, with_line};
     ghost use Rattle.rh_numbers.specs.declared.limits.TheConstants.{PART_BYTES};
 
     /// Nothing was read yet.
@@ -130,6 +130,7 @@ impl Reading {
         Ok(())
     }
 
+    /// Reads the next byte. A line that can be no number any more is refused there.
     #[tactic(auto, unfolding(crate::specs::Reading::said_from))]
     fn step(&mut self, b: u8) -> Result<(), TextFault>
         requires few { self.old.line + 1 < 2 ^ 64 }
@@ -147,8 +148,11 @@ impl Reading {
             self.end_line()?;
             self.line += 1;
             self.so_far = LineSoFar::Start;
-        } else {
-            self.so_far = self.so_far.next(b);
+            return Ok(());
+        }
+        self.so_far = self.so_far.next(b);
+        if let LineSoFar::Other = self.so_far {
+            return Err(TextFault::NotAKey { line: self.line });
         }
         Ok(())
     }
@@ -166,32 +170,30 @@ impl Reading {
             (λ fault. Stops fault self.new.keys.items
             (with_line self.old.keys.items self.old.line self.old.so_far)) }
     {
-        match self.so_far {
-            LineSoFar::Start | LineSoFar::Blank | LineSoFar::Comment | LineSoFar::Return(None) =>
-                Ok(()),
-            LineSoFar::Number(n) | LineSoFar::After(n) | LineSoFar::Return(Some(n)) => self.take(n),
-            LineSoFar::Other => Err(TextFault::NotAKey { line: self.line }),
+        match self.so_far.end() {
+            Ok(None) => Ok(()),
+            Ok(Some(key)) => self.take(key),
+            Err(bad) => Err(bad.in_line(self.line)),
         }
     }
 
-    fn take(&mut self, n: u64) -> Result<(), TextFault>
-        requires { length self.old.keys.items < vec_capacity self.old.keys }
+    /// Takes a key, if not too many are held.
+    fn take(&mut self, key: u64) -> Result<(), TextFault>
+        requires key { IsKey key }
+        requires room { length self.old.keys.items < vec_capacity self.old.keys }
         ensures line { self.new.line ≡ self.old.line }
         ensures room { vec_capacity self.new.keys ≡ vec_capacity self.old.keys }
         ensures many { length self.new.keys.items ≤ length self.old.keys.items + 1 }
         ensures full { IsErrOf result TextFault.TooMany → length self.new.keys.items ≡ MAX_KEYS }
         ensures keys { MatchResult result
-            (λ _. with_key self.old.keys.items self.old.line n ≡ (self.new.keys.items, None))
+            (λ _. self.new.keys.items ≡ self.old.keys.items ++ key ∷ [])
             (λ fault. Stops fault self.new.keys.items
-            (with_key self.old.keys.items self.old.line n)) }
+            (self.old.keys.items ++ key ∷ [], None)) }
     {
-        if n > MAX_KEY {
-            return Err(TextFault::OutOfRange { line: self.line });
-        }
         if self.keys.len() as u64 >= MAX_KEYS {
             return Err(TextFault::TooMany);
         }
-        self.keys.push_reserved(n);
+        self.keys.push_reserved(key);
         Ok(())
     }
 }
