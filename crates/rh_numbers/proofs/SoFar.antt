@@ -1,22 +1,22 @@
 -- What is so of a line of which the reader has come so far.
-use Rattle.std.proofs.Common.{◌≡◌, ℕ, ◌+◌, ◌-◌, ◌*◌, ◌<◌, ◌≤◌, min, true, List, [], ◌∷◌, ◌++◌, Option, Some, None, refl, sym, ap, subst, ◌∙◌, arith, append_assoc, append-nil, length-append}
-use Rattle.std.specs.Prelude.{fold, nat_le}
+use Rattle.std.proofs.Common.{◌≡◌, ℕ, ◌+◌, ◌-◌, ◌*◌, ◌<◌, ◌≤◌, min, true, List, [], ◌∷◌, ◌++◌, Option, Some, None, inl, inr, refl, sym, ap, subst, ◌∙◌, arith, append_assoc, append-nil, length-append}
+use Rattle.std.specs.Prelude.{◌||◌, fold, nat_eq, nat_le}
 use Rattle.std.specs.Char.{digit_value, is_ascii_digit}
 use Rattle.std.specs.Str.Parse.{IsNumeral, digits_value}
-use Rattle.std.proofs.lemmas.Bool.{and_parts, cond_both, eqb-true, leb-true}
+use Rattle.std.proofs.lemmas.Bool.{and_parts, cases_Bool, cond_both, eqb-true, leb-true}
 use Rattle.std.proofs.lemmas.Int.Digits.{digits_push, digits_value_push}
 use Rattle.std.proofs.lemmas.Str.{digit_value_digit}
 use Rattle.rh_layout.specs.declared.limits.TheConstants.{MAX_KEY}
 use Rattle.rh_numbers.specs.declared.line_so_far.LineSoFar.{LineSoFar}
 use Rattle.rh_numbers.specs.declared.line_so_far.LineSoFar.TheVariants.{Start, Blank, Comment, Number, After, Return, Other}
-use Rattle.rh_numbers.specs.Grammar.{AreSpaces}
+use Rattle.rh_numbers.specs.Grammar.{AreSpaces, IsSpace}
 use Rattle.rh_numbers.specs.Reading.{first, grown, next, past}
 
 -- the number that counts for one of any size
 abbrev pub capped : ℕ → ℕ
 capped n = min n (MAX_KEY + 1)
 
--- the line is spaces, and then digits of a number that counts as n
+-- the line is spaces or tabs, and then digits of a number that counts as n
 pub record Digits (n : ℕ) (line : List ℕ) : Type 0 where
   pub before : List ℕ
   pub digits : List ℕ
@@ -25,7 +25,7 @@ pub record Digits (n : ℕ) (line : List ℕ) : Type 0 where
   pub numeral : IsNumeral 10 digits
   pub value : n ≡ capped (digits_value 10 digits)
 
--- and then spaces
+-- and then spaces or tabs
 pub record Numeral (n : ℕ) (line : List ℕ) : Type 0 where
   pub front : List ℕ
   pub after : List ℕ
@@ -51,7 +51,7 @@ Means Other line = Unit {0}
 
 -- ---- one byte more
 
-spaces_push : (line : List ℕ) (b : ℕ) → AreSpaces line → b ≡ 32 → AreSpaces (line ++ (b ∷ []))
+spaces_push : (line : List ℕ) (b : ℕ) → AreSpaces line → IsSpace b → AreSpaces (line ++ (b ∷ []))
 spaces_push [] b spaces is = (is, tt)
 spaces_push (x ∷ line) b spaces is = (spaces.0, spaces_push line b spaces.1 is)
 
@@ -92,7 +92,7 @@ next_digit n line b d is = record {
 pub no_spaces : (n : ℕ) (line : List ℕ) → Digits n line → Numeral n line
 no_spaces n line d = record { front = line; after = []; spelled = sym (append-nil line); number = d; spaces = tt }
 
-next_space : (n : ℕ) (line : List ℕ) (b : ℕ) → Numeral n line → b ≡ 32 → Numeral n (line ++ (b ∷ []))
+next_space : (n : ℕ) (line : List ℕ) (b : ℕ) → Numeral n line → IsSpace b → Numeral n (line ++ (b ∷ []))
 next_space n line b m is = record {
   front = m.front;
   after = m.after ++ (b ∷ []);
@@ -101,10 +101,18 @@ next_space n line b m is = record {
   spaces = spaces_push m.after b m.spaces is;
 }
 
-means_past : (blank : LineSoFar) (said : Option ℕ) (line : List ℕ) (b : ℕ) → Said said line → (b ≡ 32 → Means blank (line ++ (b ∷ []))) → Means (past blank said b) (line ++ (b ∷ []))
+-- what is taken for a space is one
+a_space : (b : ℕ) → (nat_eq b 32 || nat_eq b 9) ≡ true → IsSpace b
+a_space b is =
+    elim (cases_Bool (nat_eq b 32)) [
+      | inl space ↦ inl (eqb-true b 32 space)
+      | inr other ↦ inr (eqb-true b 9 (rw other at is))
+    ]
+
+means_past : (blank : LineSoFar) (said : Option ℕ) (line : List ℕ) (b : ℕ) → Said said line → (IsSpace b → Means blank (line ++ (b ∷ []))) → Means (past blank said b) (line ++ (b ∷ []))
 means_past spaced said line b told space =
     let P : LineSoFar → Type 0 = λ p. Means p (line ++ (b ∷ [])) in
-    cond_both _ _ _ P (λ is. space (eqb-true b 32 is)) (λ _. cond_both _ _ _ P (λ is. let back : Returned said (line ++ (b ∷ [])) = (line, ap (λ c. line ++ (c ∷ [])) (eqb-true b 13 is), told) in back) (λ _. tt))
+    cond_both _ _ _ P (λ is. space (a_space b is)) (λ _. cond_both _ _ _ P (λ is. let back : Returned said (line ++ (b ∷ [])) = (line, ap (λ c. line ++ (c ∷ [])) (eqb-true b 13 is), told) in back) (λ _. tt))
 
 means_first : (line : List ℕ) (b : ℕ) → AreSpaces line → Means (first b) (line ++ (b ∷ []))
 means_first line b spaces =

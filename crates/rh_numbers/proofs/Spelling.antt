@@ -12,7 +12,7 @@ use Rattle.rh_layout.specs.Key.{IsKey}
 use Rattle.rh_layout.specs.declared.limits.TheConstants.{MAX_KEY, MAX_KEYS}
 use Rattle.rh_numbers.specs.declared.line_so_far.LineSoFar.{LineSoFar}
 use Rattle.rh_numbers.specs.declared.line_so_far.LineSoFar.TheVariants.{Start, Blank, Comment, Number, After}
-use Rattle.rh_numbers.specs.Grammar.{AreLines, AreSpaces, IsKeyText, IsOneLine, IsReturn, IsText, Says, blank, comment, last, more, number}
+use Rattle.rh_numbers.specs.Grammar.{AreLines, AreSpaces, IsKeyText, IsOneLine, IsReturn, IsSpace, IsText, Says, blank, comment, last, more, number}
 use Rattle.rh_numbers.specs.Reading.{◌>>=◌, Said, first, limited, next, said_from, text_keys, text_said, with_key, with_line}
 use Rattle.rh_numbers.specs.Writing.{text_of}
 use Rattle.rh_numbers.proofs.SoFar.{capped, grown_capped}
@@ -27,29 +27,31 @@ after_comment : (line : List ℕ) → after Comment line ≡ Comment
 after_comment [] = refl
 after_comment (b ∷ line) = after_comment line
 
-next_space : (so_far : LineSoFar) (b : ℕ) → b ≡ 32 → next so_far b ≡ next so_far 32
-next_space so_far b is = ap (next so_far) is
+-- after a space or a tab
+next_space : (so_far then : LineSoFar) (b : ℕ) → IsSpace b → next so_far 32 ≡ then → next so_far 9 ≡ then → next so_far b ≡ then
+next_space so_far then b (inl is) space tab = ap (next so_far) is ∙ space
+next_space so_far then b (inr is) space tab = ap (next so_far) is ∙ tab
 
--- what holds after spaces
+-- what holds after spaces and tabs
 after_blank : (P : LineSoFar → Type 0) (spaces : List ℕ) → AreSpaces spaces → P Blank → P (after Blank spaces)
 after_blank P [] are later = later
 after_blank P (b ∷ spaces) are later =
-    subst (λ p. P (after p spaces)) (sym (next_space Blank b are.0)) (after_blank P spaces are.1 later)
+    subst (λ p. P (after p spaces)) (sym (next_space Blank Blank b are.0 refl refl)) (after_blank P spaces are.1 later)
 
 after_start : (P : LineSoFar → Type 0) (spaces : List ℕ) → AreSpaces spaces → P Start → P Blank → P (after Start spaces)
 after_start P [] are now later = now
 after_start P (b ∷ spaces) are now later =
-    subst (λ p. P (after p spaces)) (sym (next_space Start b are.0)) (after_blank P spaces are.1 later)
+    subst (λ p. P (after p spaces)) (sym (next_space Start Blank b are.0 refl refl)) (after_blank P spaces are.1 later)
 
 after_after : (P : LineSoFar → Type 0) (n : ℕ) (spaces : List ℕ) → AreSpaces spaces → P (After n) → P (after (After n) spaces)
 after_after P n [] are now = now
 after_after P n (b ∷ spaces) are now =
-    subst (λ p. P (after p spaces)) (sym (next_space (After n) b are.0)) (after_after P n spaces are.1 now)
+    subst (λ p. P (after p spaces)) (sym (next_space (After n) (After n) b are.0 refl refl)) (after_after P n spaces are.1 now)
 
 after_number : (P : LineSoFar → Type 0) (n : ℕ) (spaces : List ℕ) → AreSpaces spaces → P (Number n) → P (After n) → P (after (Number n) spaces)
 after_number P n [] are now later = now
 after_number P n (b ∷ spaces) are now later =
-    subst (λ p. P (after p spaces)) (sym (next_space (Number n) b are.0)) (after_after P n spaces are.1 later)
+    subst (λ p. P (after p spaces)) (sym (next_space (Number n) (After n) b are.0 refl refl)) (after_after P n spaces are.1 later)
 
 a_digit : (b : ℕ) → digit_value b < 10 → is_ascii_digit b ≡ true
 a_digit b small = let r = digit_from_value b small in and_from (nat_le 48 b) (nat_le b 57) (le-leb 48 b r.0) (le-leb b 57 r.1)
@@ -68,7 +70,7 @@ after_digits v [] all = refl
 after_digits v (b ∷ digits) all =
     ap (λ p. after p digits) (next_number v b all.0) ∙ after_digits (v * 10 + digit_value b) digits all.1
 
--- the digits of a number, after spaces or not
+-- the digits of a number, after these or none
 after_numeral : (so_far : LineSoFar) (digits : List ℕ) → IsNumeral 10 digits → ((b : ℕ) → digit_value b < 10 → next so_far b ≡ first b) → after so_far digits ≡ Number (capped (digits_value 10 digits))
 after_numeral so_far [] is begins = absurd (omega (arith, is.0))
 after_numeral so_far (b ∷ digits) is begins =

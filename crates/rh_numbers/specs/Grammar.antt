@@ -4,10 +4,14 @@ use Rattle.std.specs.Str.Parse.{IsNumeral, digits_value}
 use Rattle.rh_layout.specs.Key.{IsKey}
 use Rattle.rh_layout.specs.declared.limits.TheConstants.{MAX_KEYS}
 
--- spaces, or nothing
+-- a space or a tab
+abbrev pub IsSpace : ℕ → Type 0
+IsSpace b = (b ≡ 32) ⊎ (b ≡ 9)
+
+-- spaces and tabs, or nothing
 abbrev pub AreSpaces : List ℕ → Type 0
 AreSpaces [] = Unit {0}
-AreSpaces (b ∷ bytes) = (b ≡ 32) × AreSpaces bytes
+AreSpaces (b ∷ bytes) = IsSpace b × AreSpaces bytes
 
 -- the carriage return that a line may end by, or nothing
 abbrev pub IsReturn : List ℕ → Type 0

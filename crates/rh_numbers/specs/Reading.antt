@@ -1,6 +1,6 @@
 -- Reading a text of numbers from left to right, byte by byte, up to its first fault. What a text is, is a relation on its lines
 -- (`Grammar`); the laws `one_meaning` and `first_fault` tie the two, so that no reader of a contract has to trust this walk.
-use Rattle.std.specs.Prelude.{◌≡◌, ℕ, ◌+◌, ◌-◌, ◌*◌, ◌≤◌, min, ◌==◌, nat_lt, if◌then◌else◌, List, [], ◌∷◌, ◌++◌, length, Option, Some, None, Result, Ok, Err}
+use Rattle.std.specs.Prelude.{◌≡◌, ℕ, ◌+◌, ◌-◌, ◌*◌, ◌≤◌, min, ◌==◌, ◌||◌, nat_lt, if◌then◌else◌, List, [], ◌∷◌, ◌++◌, length, Option, Some, None, Result, Ok, Err}
 use Rattle.std.specs.Char.{is_ascii_digit}
 use Rattle.std.specs.Io.KnownBytes.{Consumes}
 use Rattle.rh_layout.specs.declared.limits.TheConstants.{MAX_KEY, MAX_KEYS}
@@ -20,9 +20,9 @@ grown n b = min (n * 10 + (b - 48)) (MAX_KEY + 1)
 
 -- after a byte that is no digit, where the line has said this so far
 abbrev pub past : (blank : LineSoFar) → Option ℕ → ℕ → LineSoFar
-past blank said b = if b == 32 then blank else if b == 13 then Return said else Other
+past blank said b = if b == 32 || b == 9 then blank else if b == 13 then Return said else Other
 
--- after a byte with only spaces before it
+-- after a byte with only spaces and tabs before it
 abbrev pub first : ℕ → LineSoFar
 first b = if is_ascii_digit b then Number (grown 0 b) else past Blank None b
 

@@ -15,15 +15,15 @@ use rh_layout::MAX_KEY;
 pub enum LineSoFar {
     /// Nothing.
     Start,
-    /// Spaces.
+    /// Spaces or tabs.
     Blank,
     /// `#`, and whatever came after it.
     Comment,
-    /// Digits, perhaps after spaces.
+    /// Digits, perhaps after these.
     Number(u64),
-    /// And spaces after them.
+    /// And spaces or tabs after them.
     After(u64),
-    /// A carriage return, after this number or spaces: the line has to end here.
+    /// A carriage return, after this number or none: the line has to end here.
     Return(Option<u64>),
     /// What is no number.
     Other,
@@ -108,7 +108,7 @@ fn past(blank: LineSoFar, said: Option<u64>, b: u8) -> LineSoFar
     ensures { result ≡ past blank said b }
 {
     match b {
-        b' ' => blank,
+        b' ' | b'\t' => blank,
         b'\r' => LineSoFar::Return(said),
         _ => LineSoFar::Other,
     }
