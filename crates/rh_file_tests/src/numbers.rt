@@ -29,6 +29,11 @@ pub(crate) const ACCEPTED: &[(&[u8], &[u64])] = &[
     (b"1234567890", &[1234567890]),
     (b" ", &[]),
     (b"\r", &[]),
+    (b"\xef\xbb\xbf17\n1\n9\n", &[17, 1, 9]),
+    (b"\xef\xbb\xbf \t17\r\n", &[17]),
+    (b"\xef\xbb\xbf# spring\n17", &[17]),
+    (b"\xef\xbb\xbf\n17", &[17]),
+    (b"\xef\xbb\xbf", &[]),
 ];
 
 #[test]
@@ -63,6 +68,16 @@ pub(crate) const NOT_A_KEY: &[(&[u8], u64)] = &[
     (b"17\n1x", 2),
     (b"99999999999999999999x\n", 1),
     (b"1\0\n", 1),
+    (b"17\n\xef\xbb\xbf1\n", 2),
+    (b"\n\xef\xbb\xbf", 2),
+    (b" \xef\xbb\xbf17\n", 1),
+    (b"\xef\xbb\xbf\xef\xbb\xbf17\n", 1),
+    (b"\xef\xbb\xbfx\n", 1),
+    (b"\xef", 1),
+    (b"\xef\xbb", 1),
+    (b"\xef\xbb\n", 1),
+    (b"\xef\xbb17\n", 1),
+    (b"\xef\xbf\xbb17\n", 1),
 ];
 
 #[test]
@@ -170,6 +185,8 @@ const BEFORE_A_FAILED_READ: &[(&[u8], TextFault)] = &[
     (b"1\n2", TextFault::Read),
     (b"1\n4611686018427387903", TextFault::Read),
     (b"1\n2\n", TextFault::Read),
+    (b"\xef\xbb", TextFault::Read),
+    (b"\xef\xbb\xbe", TextFault::NotAKey { line: 1 }),
 ];
 
 #[test]

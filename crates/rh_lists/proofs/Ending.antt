@@ -8,7 +8,7 @@ use Rattle.rh_numbers.specs.declared.fault.TextFault.TheVariants as texts
 use Rattle.rh_numbers.specs.declared.line_so_far.BadLine.{BadLine}
 use Rattle.rh_numbers.specs.declared.line_so_far.BadLine.TheVariants.{NotAKey, OutOfRange}
 use Rattle.rh_numbers.specs.declared.line_so_far.LineSoFar.{LineSoFar}
-use Rattle.rh_numbers.specs.declared.line_so_far.LineSoFar.TheVariants.{Start}
+use Rattle.rh_numbers.specs.declared.line_so_far.LineSoFar.TheVariants.{Head}
 use Rattle.rh_numbers.specs.Chunks.{ReadsTo, ended, goes_on, in_line}
 use Rattle.rh_numbers.specs.Reading.{Said, text_said, with_line}
 use Rattle.rh_numbers.proofs.Spelling.{at_end}
@@ -16,7 +16,7 @@ use Rattle.rh_pieces.specs.declared.list.KeyList.{KeyList}
 use Rattle.rh_pieces.specs.Pieces.{keys_in}
 use Rattle.rh_lists.specs.Parts.{TellsText, Refuses}
 
-module _ (bytes keys : List ℕ) (lines : ℕ) (end : ChunkEnd) (read : ReadsTo Start bytes keys lines end) where
+module _ (bytes keys : List ℕ) (lines : ℕ) (end : ChunkEnd) (read : ReadsTo Head bytes keys lines end) where
   pub bad_line_said : (bad : BadLine) (rest : List ℕ) → end ≡ Bad bad → text_said (bytes ++ rest) ≡ (keys, Some (in_line (1 + lines) bad))
   bad_line_said bad rest is = read [] 1 rest ∙ ap (λ e. goes_on keys (1 + lines) e rest) is
 
@@ -32,7 +32,7 @@ pub line_refused : (said : Said) (line : ℕ) (bad : BadLine) → said.1 ≡ Som
 line_refused said line NotAKey h = h
 line_refused said line OutOfRange h = h
 
-module _ (bytes keys : List ℕ) (lines : ℕ) (end : ChunkEnd) (read : ReadsTo Start bytes keys lines end) (bad : BadLine) (is : end ≡ Bad bad) where
+module _ (bytes keys : List ℕ) (lines : ℕ) (end : ChunkEnd) (read : ReadsTo Head bytes keys lines end) (bad : BadLine) (is : end ≡ Bad bad) where
   pub refused_on : (rest : List ℕ) → Refuses (text_said (bytes ++ rest)) (in_line (1 + lines) bad)
   refused_on rest = line_refused (text_said (bytes ++ rest)) (1 + lines) bad (ap (λ s. s.1) (bad_line_said bytes keys lines end read bad rest is))
 

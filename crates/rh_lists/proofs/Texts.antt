@@ -8,7 +8,7 @@ use Rattle.rh_numbers.specs.Chunks.{ReadsTo}
 use Rattle.rh_numbers.specs.declared.chunk.ChunkEnd.{ChunkEnd}
 use Rattle.rh_numbers.specs.declared.chunk.ChunkEnd.TheVariants.{Open, Bad}
 use Rattle.rh_numbers.specs.declared.fault.TextFault.{TextFault}
-use Rattle.rh_numbers.specs.declared.line_so_far.LineSoFar.TheVariants.{Start}
+use Rattle.rh_numbers.specs.declared.line_so_far.LineSoFar.TheVariants.{Head}
 use Rattle.rh_numbers.specs.Reading.{text_said}
 use Rattle.rh_pieces.specs.declared.list.KeyList.{KeyList}
 use Rattle.rh_lists.specs.declared.part.ListPart.{ListPart}
@@ -22,15 +22,15 @@ pub record Going (begun : List ℕ) (start now : Option (List ℕ)) (text : List
   pub front : List ℕ
   pub taken : Consumes start now front
   pub whole : begun ++ front ≡ before ++ block
-  pub read : IsReadTo Start before text
+  pub read : IsReadTo Head before text
 
 -- the first block came, and only what the text begins with is read
-pub first_going : (begun : List ℕ) (start now : Option (List ℕ)) (text : ListPart) (block : List ℕ) → IsReadTo Start begun text → Consumes start now block → Going begun start now text block
+pub first_going : (begun : List ℕ) (start now : Option (List ℕ)) (text : ListPart) (block : List ℕ) → IsReadTo Head begun text → Consumes start now block → Going begun start now text block
 first_going begun start now text block read comes = record { before = begun; front = block; taken = comes; whole = refl; read = read }
 
 -- the block is read, and the next one comes behind it
 pub going_on : (begun : List ℕ) (a b c : Option (List ℕ)) (block next : List ℕ) (text more : ListPart) → Going begun a b text block → Consumes b c next
-    → ((before : List ℕ) → IsReadTo Start before text → IsReadTo Start (before ++ block) more) → Going begun a c more next
+    → ((before : List ℕ) → IsReadTo Head before text → IsReadTo Head (before ++ block) more) → Going begun a c more next
 going_on begun a b c block next text more going comes step = record {
   before = going.before ++ block;
   front = going.front ++ next;
@@ -41,7 +41,7 @@ going_on begun a b c block next text more going comes step = record {
 
 -- the block has the first fault
 pub block_refused : (begun : List ℕ) (a b c : Option (List ℕ)) (block : List ℕ) (text : ListPart) (fault : TextFault) → Going begun a b text block
-    → ((before rest : List ℕ) → IsReadTo Start before text → Refuses (text_said ((before ++ block) ++ rest)) fault) → ReadsTextList begun a c (Err fault)
+    → ((before rest : List ℕ) → IsReadTo Head before text → Refuses (text_said ((before ++ block) ++ rest)) fault) → ReadsTextList begun a c (Err fault)
 block_refused begun None b c block text fault going stop = tt
 block_refused begun (Some xs) None c block text fault going stop = absurd going.taken
 block_refused begun (Some xs) (Some ys) c block text fault going stop =
@@ -50,14 +50,14 @@ block_refused begun (Some xs) (Some ys) c block text fault going stop =
 
 -- what the last bytes of a text are told to say, behind which nothing comes, or a read failed
 abbrev pub TellsLast : ListPart → (last : List ℕ) → Bool → Result KeyList TextFault → Type 0
-TellsLast text last failed r = (before rest : List ℕ) → IsReadTo Start before text → (IsFalse failed → rest ≡ []) → TellsText (text_said ((before ++ last) ++ rest)) r
+TellsLast text last failed r = (before rest : List ℕ) → IsReadTo Head before text → (IsFalse failed → rest ≡ []) → TellsText (text_said ((before ++ last) ++ rest)) r
 
 known : (begun xs rest : List ℕ) (failed : Bool) (r : Result KeyList TextFault) → TellsText (text_said (begun ++ xs)) r → (IsFalse failed → rest ≡ []) → OnOk r (IsFalse failed) → ReadsTextList begun (Some xs) (Some rest) r
 known begun xs rest failed (Ok keys) told end fine = (told, end fine)
 known begun xs rest failed (Err fault) told end fine = told
 
 pub last_read : (begun : List ℕ) (a b c : Option (List ℕ)) (block last : List ℕ) (text more : ListPart) (failed : Bool) (r : Result KeyList TextFault) → Going begun a b text block
-    → Consumes b c last → (IsFalse failed → IsAtEnd c) → ((before : List ℕ) → IsReadTo Start before text → IsReadTo Start (before ++ block) more) → TellsLast more last failed r → OnOk r (IsFalse failed) → ReadsTextList begun a c r
+    → Consumes b c last → (IsFalse failed → IsAtEnd c) → ((before : List ℕ) → IsReadTo Head before text → IsReadTo Head (before ++ block) more) → TellsLast more last failed r → OnOk r (IsFalse failed) → ReadsTextList begun a c r
 last_read begun None b c block last text more failed r going comes end step told fine = tt
 last_read begun (Some xs) None c block last text more failed r going comes end step told fine = absurd going.taken
 last_read begun (Some xs) (Some ys) None block last text more failed r going comes end step told fine = absurd comes
@@ -67,7 +67,7 @@ last_read begun (Some xs) (Some ys) (Some zs) block last text more failed r goin
     known begun xs zs failed r (subst (λ l. TellsText (text_said l) r) (sym whole) (told (going.before ++ block) zs (step going.before going.read) end)) end fine
 
 -- the first block is the last one
-pub only_read : (begun : List ℕ) (a c : Option (List ℕ)) (last : List ℕ) (text : ListPart) (failed : Bool) (r : Result KeyList TextFault) → IsReadTo Start begun text
+pub only_read : (begun : List ℕ) (a c : Option (List ℕ)) (last : List ℕ) (text : ListPart) (failed : Bool) (r : Result KeyList TextFault) → IsReadTo Head begun text
     → Consumes a c last → (IsFalse failed → IsAtEnd c) → TellsLast text last failed r → OnOk r (IsFalse failed) → ReadsTextList begun a c r
 only_read begun None c last text failed r read comes end told fine = tt
 only_read begun (Some xs) None last text failed r read comes end told fine = absurd comes
@@ -124,24 +124,24 @@ not_failed failed count size early full =
 
 -- ---- a failed read behind good lines
 
-no_bad_line : (bytes keys : List ℕ) (lines : ℕ) (end : ChunkEnd) → IsOpen end → ReadsTo Start bytes keys lines end → HasNoFault bytes
+no_bad_line : (bytes keys : List ℕ) (lines : ℕ) (end : ChunkEnd) → IsOpen end → ReadsTo Head bytes keys lines end → HasNoFault bytes
 no_bad_line bytes keys lines (Open so_far) good read = (keys, (1 + lines, so_far, λ rest. read [] 1 rest))
 no_bad_line bytes keys lines (Bad bad) good read = absurd good
 
-pub no_fault : (bytes : List ℕ) (part : ListPart) → IsOpen part.end → IsReadTo Start bytes part → HasNoFault bytes
+pub no_fault : (bytes : List ℕ) (part : ListPart) → IsOpen part.end → IsReadTo Head bytes part → HasNoFault bytes
 no_fault bytes part good read = no_bad_line bytes (keys_in part.keys) part.lines part.end good read
 
 -- the last bytes before a failed read hold none
 abbrev pub TestsLast : ListPart → (last : List ℕ) → Type 0
-TestsLast text last = (before : List ℕ) → IsReadTo Start before text → HasNoFault (before ++ last)
+TestsLast text last = (before : List ℕ) → IsReadTo Head before text → HasNoFault (before ++ last)
 
 pub last_tested : (begun : List ℕ) (a b c : Option (List ℕ)) (block last : List ℕ) (text more : ListPart) → Going begun a b text block → Consumes b c last
-    → ((before : List ℕ) → IsReadTo Start before text → IsReadTo Start (before ++ block) more) → TestsLast more last → TakesNoFault begun a c
+    → ((before : List ℕ) → IsReadTo Head before text → IsReadTo Head (before ++ block) more) → TestsLast more last → TakesNoFault begun a c
 last_tested begun a b c block last text more going comes step tests =
     let whole : (going.before ++ block) ++ last ≡ begun ++ (going.front ++ last) = ap (λ l. l ++ last) (sym going.whole) ∙ append_assoc begun going.front last in
     (going.front ++ last, Consumes-trans a b c going.front last going.taken comes, subst HasNoFault whole (tests (going.before ++ block) (step going.before going.read)))
 
-pub only_tested : (begun : List ℕ) (a c : Option (List ℕ)) (last : List ℕ) (text : ListPart) → IsReadTo Start begun text → Consumes a c last → TestsLast text last → TakesNoFault begun a c
+pub only_tested : (begun : List ℕ) (a c : Option (List ℕ)) (last : List ℕ) (text : ListPart) → IsReadTo Head begun text → Consumes a c last → TestsLast text last → TakesNoFault begun a c
 only_tested begun a c last text read comes tests = (last, comes, tests begun read)
 
 pub first_tested : (begun : List ℕ) (a b c : Option (List ℕ)) (block : List ℕ) → Consumes a b block → TakesNoFault (begun ++ block) b c → TakesNoFault begun a c

@@ -8,7 +8,7 @@ use Rattle.rh_numbers.specs.declared.chunk.ChunkEnd.TheVariants.{Open, Bad}
 use Rattle.rh_numbers.specs.declared.fault.TextFault.{TextFault}
 use Rattle.rh_numbers.specs.declared.fault.TextFault.TheVariants as texts
 use Rattle.rh_numbers.specs.declared.line_so_far.LineSoFar.{LineSoFar}
-use Rattle.rh_numbers.specs.declared.line_so_far.LineSoFar.TheVariants.{Start}
+use Rattle.rh_numbers.specs.declared.line_so_far.LineSoFar.TheVariants.{Head, Start}
 use Rattle.rh_numbers.specs.declared.limits.TheConstants.{MAX_BYTES}
 use Rattle.rh_numbers.specs.Chunks.{EndsLine, ReadsTo, last_of}
 use Rattle.rh_numbers.specs.Reading.{Said, text_said}
@@ -66,8 +66,8 @@ pub record AnswersText {R : Type 0} (remaining : R → Option (List ℕ)) (begun
 
 -- What is answered of a text of which these bytes come last, behind the part: nothing comes behind them, or a read failed there.
 pub record EndsText (text : ListPart) (last : List ℕ) (failed : Bool) (r : Result KeyList TextFault) : Type 0 where
-  pub told : (before rest : List ℕ) → IsReadTo Start before text → (IsFalse failed → rest ≡ []) → TellsText (text_said ((before ++ last) ++ rest)) r
-  pub tested : IsErrOf r texts.Read → (before : List ℕ) → IsReadTo Start before text → HasNoFault (before ++ last)
+  pub told : (before rest : List ℕ) → IsReadTo Head before text → (IsFalse failed → rest ≡ []) → TellsText (text_said ((before ++ last) ++ rest)) r
+  pub tested : IsErrOf r texts.Read → (before : List ℕ) → IsReadTo Head before text → HasNoFault (before ++ last)
   pub read : IsErrOf r texts.Read → IsTrue failed
   pub not_long : IsErrOf r texts.TooLong → ⊥
   pub fine : OnOk r (IsFalse failed)

@@ -6,7 +6,7 @@ ghost use Rattle.rh_layout.specs.Key.{IsKey};
 ghost use Rattle.rh_numbers.specs.Chunks.{EndsLine};
 ghost use Rattle.rh_numbers.specs.Reading.{text_said};
 ghost use Rattle.rh_numbers.specs.declared.line_so_far.LineSoFar.{LineSoFar};
-ghost use Rattle.rh_numbers.specs.declared.line_so_far.LineSoFar.TheVariants.{Start};
+ghost use Rattle.rh_numbers.specs.declared.line_so_far.LineSoFar.TheVariants.{Head};
 ghost use Rattle.rh_pieces.specs.Pieces.{keys_in};
 ghost use Rattle.rh_lists.specs.Lists.{OfHeldBytes};
 ghost use Rattle.rh_lists.specs.Parts.{IsOpen, IsPartOf, IsReadTo, TellsText, Refuses, end_of_part};
@@ -87,7 +87,7 @@ impl ListPart {
     fn fault(&self) -> Option<TextFault>
         requires { self.now.lines + 1 < 2 ^ 64 }
         ensures refused { IfSome result (λ fault. (bytes rest : List ℕ) →
-            IsReadTo Start bytes self.now →
+            IsReadTo Head bytes self.now →
             Refuses (text_said (bytes ++ rest)) fault) }
         ensures held { IfSome result OfHeldBytes }
         ensures none { IsNone result → IsOpen self.now.end }
@@ -102,10 +102,10 @@ impl ListPart {
     pub(crate) fn more(self, next: ListPart) -> Result<ListPart, TextFault>
         requires { self.lines + next.lines + 1 < 2 ^ 64 }
         ensures read { MatchResult result
-            (λ text. (before bytes : List ℕ) → IsReadTo Start before self →
+            (λ text. (before bytes : List ℕ) → IsReadTo Head before self →
             IsReadTo (end_of_part self) bytes next →
-            IsReadTo Start (before ++ bytes) text)
-            (λ fault. (before bytes rest : List ℕ) → IsReadTo Start before self →
+            IsReadTo Head (before ++ bytes) text)
+            (λ fault. (before bytes rest : List ℕ) → IsReadTo Head before self →
             IsReadTo (end_of_part self) bytes next →
             Refuses (text_said ((before ++ bytes) ++ rest)) fault) }
         ensures held { IfErr result OfHeldBytes }
@@ -124,7 +124,7 @@ impl ListPart {
     /// The keys of a text that is this part and nothing else.
     pub(crate) fn end_text(self, alloc: Global) -> Result<KeyList, TextFault>
         requires { self.lines + 1 < 2 ^ 64 }
-        ensures told { (bytes : List ℕ) → IsReadTo Start bytes self →
+        ensures told { (bytes : List ℕ) → IsReadTo Head bytes self →
             TellsText (text_said bytes) result }
         ensures held { IfErr result OfHeldBytes }
     {

@@ -1,7 +1,7 @@
 //! A text of numbers of any length, read block by block.
 
 ghost use Rattle.std.specs.Prelude.{◌<◌, ◌≤◌, ◌+◌, ◌++◌, ◌^◌, ℕ, List, IfErr, length};
-ghost use Rattle.rh_numbers.specs.declared.line_so_far.LineSoFar.TheVariants.{Start};
+ghost use Rattle.rh_numbers.specs.declared.line_so_far.LineSoFar.TheVariants.{Head};
 ghost use Rattle.rh_numbers.specs.Reading.{text_said};
 ghost use Rattle.rh_lists.specs.Lists.{OfHeldBytes};
 ghost use Rattle.rh_lists.specs.Parts.{AnswersText, EndsText, IsReadTo, TellsText};
@@ -26,7 +26,7 @@ pub(crate) fn read_short_text(alloc: Global, bytes: &[u8]) -> Result<KeyList, Te
     ensures told { TellsText (text_said bytes.now) result }
     ensures held { IfErr result OfHeldBytes }
 {
-    let Ok(text) = ListPart::read(alloc, LineSoFar::Start, bytes) else {
+    let Ok(text) = ListPart::read(alloc, LineSoFar::Head, bytes) else {
         return Err(TextFault::Memory);
     };
     text.end_text(alloc)
@@ -45,7 +45,7 @@ pub(crate) fn read_text<T: Threads + Sync, R: Read, P: Progress>(
     requires begun { length begun.now ≤ FIRST_BYTES }
     ensures { AnswersText R.remaining begun.now reader.old reader.new result }
 {
-    let Ok(front) = ListPart::read(team.alloc, LineSoFar::Start, begun) else {
+    let Ok(front) = ListPart::read(team.alloc, LineSoFar::Head, begun) else {
         return Err(TextFault::Memory);
     };
     let Ok(mut first) = vec![in team.alloc; 0u8; block_bytes.min(FIRST_BYTES)] else {
@@ -73,7 +73,7 @@ fn read_on<T: Threads + Sync, R: Read, P: Progress>(
 ) -> Result<KeyList, TextFault>
     requires block { (0 < block_bytes) × (block_bytes ≤ BLOCK_BYTES) }
     requires lines { text.lines ≤ BLOCK_BYTES }
-    ensures { (before : List ℕ) → IsReadTo Start before text →
+    ensures { (before : List ℕ) → IsReadTo Head before text →
         AnswersText R.remaining before reader.old reader.new result }
 {
     let Ok(mut block) = vec![in team.alloc; 0u8; block_bytes] else {
@@ -99,7 +99,7 @@ fn read_blocks<T: Threads + Sync, R: Read, P: Progress>(
     requires some { 0 < length block.items }
     requires few { length block.items ≤ BLOCK_BYTES }
     requires lines { begun.lines ≤ BLOCK_BYTES }
-    ensures { (before : List ℕ) → IsReadTo Start before begun →
+    ensures { (before : List ℕ) → IsReadTo Head before begun →
         AnswersText R.remaining (before ++ block.items) reader.old reader.new result }
 {
     let Ok(mut next) = vec![in team.alloc; 0u8; block.len()] else {

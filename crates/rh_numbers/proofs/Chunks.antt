@@ -1,14 +1,12 @@
 -- A chunk of a text, read line by line.
-use Rattle.std.proofs.Common.{◌≡◌, ◌≢◌, ℕ, zero, suc, ◌+◌, ◌-◌, ◌<◌, List, [], ◌∷◌, ◌++◌, length, take, drop, drop-cons, get_or, Some, None, inl, inr, refl, sym, ap, ◌∙◌, arith, append_assoc, append-nil, length-drop, take-append-drop}
-use Rattle.std.specs.Prelude.{fold, nat_eq, slice_index}
-use Rattle.std.proofs.lemmas.Bool.{cases_Bool}
+use Rattle.std.proofs.Common.{◌≡◌, ◌≢◌, ℕ, zero, suc, ◌+◌, ◌-◌, ◌<◌, List, [], ◌∷◌, ◌++◌, length, take, drop, drop-cons, get_or, Some, None, refl, sym, ap, ◌∙◌, arith, append_assoc, append-nil, length-drop, take-append-drop}
+use Rattle.std.specs.Prelude.{fold, slice_index}
 use Rattle.std.proofs.lemmas.List.{drop_all, get_or-drop}
 use Rattle.rh_numbers.specs.declared.chunk.ChunkEnd.{ChunkEnd}
 use Rattle.rh_numbers.specs.declared.chunk.ChunkEnd.TheVariants.{Open, Bad}
 use Rattle.rh_numbers.specs.declared.line_so_far.BadLine.{BadLine}
-use Rattle.rh_numbers.specs.declared.line_so_far.BadLine.TheVariants.{NotAKey}
 use Rattle.rh_numbers.specs.declared.line_so_far.LineSoFar.{LineSoFar}
-use Rattle.rh_numbers.specs.declared.line_so_far.LineSoFar.TheVariants.{Start, Other}
+use Rattle.rh_numbers.specs.declared.line_so_far.LineSoFar.TheVariants.{Start}
 use Rattle.rh_numbers.specs.Chunks.{ReadsTo, goes_on, last_of, told}
 use Rattle.rh_numbers.specs.Grammar.{IsOneLine}
 use Rattle.rh_numbers.specs.Reading.{◌>>=◌, next, said_from, with_line}
@@ -50,16 +48,6 @@ module _ (keys : List ℕ) (line : ℕ) (so_far : LineSoFar) (text : List ℕ) (
 
       pub bad_line : (later : List ℕ) (bad : BadLine) → with_line keys line said ≡ told later line (Some bad) → said_from keys line so_far (text ++ more) ≡ goes_on later line (Bad bad) more
       bad_line later bad h = at_its_end ∙ ap (λ s. s >>= (λ k. said_from k (line + 1) Start (drop (n + 1) text ++ more))) h
-
--- nothing comes of a line that is none
-pub other_stays : (keys : List ℕ) (line : ℕ) (bytes : List ℕ) → said_from keys line Other bytes ≡ goes_on keys line (Bad NotAKey) bytes
-unfolding said_from
-other_stays keys line [] = refl
-other_stays keys line (b ∷ bytes) =
-    elim (cases_Bool (nat_eq b 10)) [
-      | inl t ↦ rw t refl
-      | inr f ↦ rw f (other_stays keys line bytes)
-    ]
 
 -- ---- the last byte
 

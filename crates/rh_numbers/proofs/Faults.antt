@@ -7,9 +7,10 @@ use Rattle.rh_layout.specs.declared.limits.TheConstants.{MAX_KEY, MAX_KEYS}
 use Rattle.rh_numbers.specs.declared.fault.TextFault.{TextFault}
 use Rattle.rh_numbers.specs.declared.fault.TextFault.TheVariants.{NotAKey, OutOfRange, TooMany}
 use Rattle.rh_numbers.specs.declared.line_so_far.LineSoFar.{LineSoFar}
-use Rattle.rh_numbers.specs.declared.line_so_far.LineSoFar.TheVariants.{Start, Blank, Comment, Number, After, Return, Other}
+use Rattle.rh_numbers.specs.declared.line_so_far.LineSoFar.TheVariants.{Head, MarkOne, MarkTwo, Start, Blank, Comment, Number, After, Return, Other}
 use Rattle.rh_numbers.specs.Grammar.{AreWholeLines, ComesTo, EndsLine, Says, blank, comment, none, number, one_more}
-use Rattle.rh_numbers.specs.Reading.{◌>>=◌, said_from, text_keys, text_said, with_key, with_line}
+use Rattle.rh_numbers.specs.Reading.{◌>>=◌, lines_said, said_from, text_keys, text_said, with_key, with_line}
+use Rattle.rh_numbers.proofs.Head.{mark_passed}
 use Rattle.rh_numbers.proofs.SoFar.{Means, capped, means_after, no_spaces}
 use Rattle.rh_numbers.proofs.Fronts.{Begins, begins, the_fault, too_many_said}
 use Rattle.rh_numbers.proofs.Meaning.{says_number}
@@ -35,7 +36,7 @@ line_stops keys at so_far rest e (inr feed) h = ap (said_from keys at so_far) fe
 
 comes_to_line : (text keys : List ℕ) (at : ℕ) (line : List ℕ) → (to : ComesTo text keys at line) → text_said text ≡ said_from keys at (after Start line) to.rest
 comes_to_line text keys at line to =
-    ap text_said to.split ∙ past_lines [] 1 to.front keys to.before (line ++ to.rest) to.lines to.in_range
+    mark_passed text ∙ ap lines_said to.split ∙ past_lines [] 1 to.front keys to.before (line ++ to.rest) to.lines to.in_range
     ∙ ap (λ n. said_from keys n Start (line ++ to.rest)) (sym to.counted) ∙ walk keys at Start line to.rest to.one
 
 text_stops : (text keys : List ℕ) (at : ℕ) (line : List ℕ) (e : TextFault) → ComesTo text keys at line → with_line keys at (after Start line) ≡ (keys, Some e) → text_said text ≡ (keys, Some e)
@@ -43,6 +44,9 @@ text_stops text keys at line e to h = comes_to_line text keys at line to ∙ lin
 
 -- a line that says nothing the grammar knows
 no_key : (keys : List ℕ) (at : ℕ) (so_far : LineSoFar) (line : List ℕ) → Means so_far line → ((numbers : List ℕ) → Says line numbers → ⊥) → with_line keys at so_far ≡ (keys, Some (NotAKey at))
+no_key keys at Head line told not = absurd told
+no_key keys at MarkOne line told not = absurd told
+no_key keys at MarkTwo line told not = absurd told
 no_key keys at Start line told not = absurd (not [] (subst (λ l. Says l []) (sym told) (blank [] [] tt (inl refl))))
 no_key keys at Blank line told not = absurd (not [] (subst (λ l. Says l []) (append-nil line) (blank line [] told (inl refl))))
 no_key keys at Comment line told not = absurd (not [] (subst (λ l. Says l []) (sym told.1) (comment told.0)))

@@ -1,6 +1,7 @@
 -- A text is read part by part, and each part byte by byte; the proofs join the parts to the text, and tell its keys or
 -- its first fault.
 -- SoFar: what is so of a line of which the reader has come so far.
+-- Head: the head of a text, and a line that is none.
 -- Fronts: the keys that were read come first among those that are said.
 -- Parts: a text that is read in parts.
 -- Chunks: a chunk of a text, read line by line.
@@ -13,6 +14,7 @@
 -- Lines: numbers written one after another.
 
 pub mod Lines
+pub mod Head
 pub mod Fronts
 pub mod Parts
 pub mod Taken

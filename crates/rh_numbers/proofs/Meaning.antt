@@ -9,9 +9,10 @@ use Rattle.rh_layout.specs.declared.limits.TheConstants.{MAX_KEY, MAX_KEYS}
 use Rattle.rh_numbers.specs.declared.fault.TextFault.{TextFault}
 use Rattle.rh_numbers.specs.declared.fault.TextFault.TheVariants.{NotAKey, OutOfRange, TooMany}
 use Rattle.rh_numbers.specs.declared.line_so_far.LineSoFar.{LineSoFar}
-use Rattle.rh_numbers.specs.declared.line_so_far.LineSoFar.TheVariants.{Start, Blank, Comment, Number, After, Return, Other}
-use Rattle.rh_numbers.specs.Grammar.{AreLines, IsKeyText, IsOneLine, IsReturn, IsText, Says, blank, comment, last, more, number}
+use Rattle.rh_numbers.specs.declared.line_so_far.LineSoFar.TheVariants.{Head, MarkOne, MarkTwo, Start, Blank, Comment, Number, After, Return, Other}
+use Rattle.rh_numbers.specs.Grammar.{AreLines, IsKeyText, IsOneLine, IsReturn, IsText, Says, blank, comment, last, more, number, without_mark}
 use Rattle.rh_numbers.specs.Reading.{◌>>=◌, IsTextReadFrom, ReadsText, Said, if_no_fault, limited, next, said_from, text_keys, text_said, with_key, with_line}
+use Rattle.rh_numbers.proofs.Head.{mark_passed}
 use Rattle.rh_numbers.proofs.SoFar.{Means, Numeral, capped, means_next, no_spaces}
 
 -- what a line or a text gave: these keys, after those before
@@ -63,6 +64,9 @@ a_number keys at n line all says h =
     record { given = n ∷ []; spells = says t.0; whole = t.1; fit = All-cons IsKey n [] t.0 (All-nil IsKey) }
 
 ended : (keys : List ℕ) (at : ℕ) (so_far : LineSoFar) (line all : List ℕ) → Means so_far line → with_line keys at so_far ≡ said_all all → Gave (Says line) keys all
+ended keys at Head line all told h = absurd told
+ended keys at MarkOne line all told h = absurd told
+ended keys at MarkTwo line all told h = absurd told
 ended keys at Start line all told h = nothing line keys all (subst (λ l. Says l []) (sym told) (blank [] [] tt (inl refl))) h
 ended keys at Blank line all told h = nothing line keys all (subst (λ l. Says l []) (append-nil line) (blank line [] told (inl refl))) h
 ended keys at Comment line all told h = nothing line keys all (subst (λ l. Says l []) (sym told.1) (comment told.0)) h
@@ -106,8 +110,8 @@ lines_read keys at so_far line (b ∷ bytes) all one told h =
 
 pub any_text_read : (text keys : List ℕ) → text_said text ≡ (keys, None) → IsText text keys
 any_text_read text keys h =
-    let g = lines_read [] 1 Start [] text keys tt refl h in
-    record { lines = subst (AreLines text) (sym g.whole) g.spells; in_range = subst (All IsKey) (sym g.whole) g.fit }
+    let g = lines_read [] 1 Start [] (without_mark text) keys tt refl (sym (mark_passed text) ∙ h) in
+    record { lines = subst (AreLines (without_mark text)) (sym g.whole) g.spells; in_range = subst (All IsKey) (sym g.whole) g.fit }
 
 abbrev refused : TextFault → Result (List ℕ) TextFault
 refused e = Err e

@@ -8,7 +8,7 @@ use Rattle.std.proofs.lemmas.Int.Digits.{digits_push, digits_value_push}
 use Rattle.std.proofs.lemmas.Str.{digit_value_digit}
 use Rattle.rh_layout.specs.declared.limits.TheConstants.{MAX_KEY}
 use Rattle.rh_numbers.specs.declared.line_so_far.LineSoFar.{LineSoFar}
-use Rattle.rh_numbers.specs.declared.line_so_far.LineSoFar.TheVariants.{Start, Blank, Comment, Number, After, Return, Other}
+use Rattle.rh_numbers.specs.declared.line_so_far.LineSoFar.TheVariants.{Head, MarkOne, MarkTwo, Start, Blank, Comment, Number, After, Return, Other}
 use Rattle.rh_numbers.specs.Grammar.{AreSpaces, IsSpace}
 use Rattle.rh_numbers.specs.Reading.{first, grown, next, past}
 
@@ -40,6 +40,7 @@ Said (Some n) line = Numeral n line
 abbrev pub Returned : Option ℕ → List ℕ → Type 0
 Returned said line = (front : List ℕ) × (line ≡ front ++ (13 ∷ [])) × Said said front
 
+-- of a line behind the byte order mark, if there is one
 abbrev pub Means : LineSoFar → List ℕ → Type 0
 Means Start line = line ≡ []
 Means Blank line = AreSpaces line
@@ -48,6 +49,7 @@ Means (Number n) line = Digits n line
 Means (After n) line = Numeral n line
 Means (Return said) line = Returned said line
 Means Other line = Unit {0}
+Means _ line = ⊥
 
 -- ---- one byte more
 
@@ -123,6 +125,9 @@ means_next Start line b told =
     let P : LineSoFar → Type 0 = λ p. Means p (line ++ (b ∷ [])) in
     let none : AreSpaces line = subst AreSpaces (sym told) tt in
     cond_both _ _ _ P (λ is. let begun : (rest : List ℕ) × (line ++ (b ∷ []) ≡ 35 ∷ rest) = ([], ap (λ l. l ++ (b ∷ [])) told ∙ ap (λ c. c ∷ []) (eqb-true b 35 is)) in begun) (λ _. means_first line b none)
+means_next Head line b told = absurd told
+means_next MarkOne line b told = absurd told
+means_next MarkTwo line b told = absurd told
 means_next Blank line b told = means_first line b told
 means_next Comment line b told = (told.0 ++ (b ∷ []), ap (λ l. l ++ (b ∷ [])) told.1)
 means_next (Number n) line b told =

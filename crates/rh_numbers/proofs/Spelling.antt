@@ -12,9 +12,10 @@ use Rattle.rh_layout.specs.Key.{IsKey}
 use Rattle.rh_layout.specs.declared.limits.TheConstants.{MAX_KEY, MAX_KEYS}
 use Rattle.rh_numbers.specs.declared.line_so_far.LineSoFar.{LineSoFar}
 use Rattle.rh_numbers.specs.declared.line_so_far.LineSoFar.TheVariants.{Start, Blank, Comment, Number, After}
-use Rattle.rh_numbers.specs.Grammar.{AreLines, AreSpaces, IsKeyText, IsOneLine, IsReturn, IsSpace, IsText, Says, blank, comment, last, more, number}
+use Rattle.rh_numbers.specs.Grammar.{AreLines, AreSpaces, IsKeyText, IsOneLine, IsReturn, IsSpace, IsText, Says, blank, comment, last, more, number, without_mark}
 use Rattle.rh_numbers.specs.Reading.{◌>>=◌, Said, first, limited, next, said_from, text_keys, text_said, with_key, with_line}
 use Rattle.rh_numbers.specs.Writing.{text_of}
+use Rattle.rh_numbers.proofs.Head.{mark_passed, no_mark}
 use Rattle.rh_numbers.proofs.SoFar.{capped, grown_capped}
 
 -- what a line has said after these bytes
@@ -148,7 +149,7 @@ lines_given keys at text numbers (more line said rest others one says lines) fit
     ∙ ap said_all (append_assoc keys said others)
 
 pub any_text_given : (text keys : List ℕ) → IsText text keys → text_said text ≡ said_all keys
-any_text_given text keys t = lines_given [] 1 text keys t.lines t.in_range
+any_text_given text keys t = mark_passed text ∙ lines_given [] 1 (without_mark text) keys t.lines t.in_range
 
 pub text_given : (text keys : List ℕ) → IsKeyText text keys → text_keys text ≡ Ok keys
 text_given text keys t =
@@ -175,5 +176,18 @@ written_lines (n ∷ keys) fit =
     subst (λ l. AreLines l (n ∷ keys)) (sym (append_assoc (decimal n) (10 ∷ []) (text_of keys)))
     (more (decimal n) (n ∷ []) (text_of keys) keys (digits_are_one_line (decimal n) (decimal_is_IsNumeral n small).0.1) (number_said n small) (written_lines keys (All-tail IsKey n keys fit)))
 
+-- a text that begins with digits has no byte order mark
+digits_first : (digits rest : List ℕ) → IsNumeral 10 digits → without_mark (digits ++ rest) ≡ digits ++ rest
+digits_first [] rest is = absurd (omega (arith, is.0))
+digits_first (b ∷ digits) rest is = let r = digit_from_value b is.1.0 in no_mark b (digits ++ rest) (λ marks. omega (arith, r.1, marks))
+
+written_unmarked : (keys : List ℕ) → All IsKey keys → without_mark (text_of keys) ≡ text_of keys
+written_unmarked [] fit = refl
+written_unmarked (n ∷ keys) fit =
+    let key : n ≤ MAX_KEY = All-head IsKey n keys fit in
+    let small : n < 2 ^ 64 = omega (arith, key) in
+    let behind = append_assoc (decimal n) (10 ∷ []) (text_of keys) in
+    ap without_mark behind ∙ digits_first (decimal n) (10 ∷ text_of keys) (decimal_is_IsNumeral n small).0 ∙ sym behind
+
 pub text_written : (keys : List ℕ) → length keys ≤ MAX_KEYS → All IsKey keys → IsKeyText (text_of keys) keys
-text_written keys few fit = record { lines = written_lines keys fit; few = few; in_range = fit }
+text_written keys few fit = record { lines = subst (λ l. AreLines l keys) (sym (written_unmarked keys fit)) (written_lines keys fit); few = few; in_range = fit }

@@ -4,9 +4,9 @@ use Rattle.std.specs.Prelude.{nat_eq, nat_lt}
 use Rattle.std.proofs.lemmas.Bool.{cases_Bool}
 use Rattle.rh_layout.specs.declared.limits.TheConstants.{MAX_KEY}
 use Rattle.rh_numbers.specs.declared.line_so_far.LineSoFar.{LineSoFar}
-use Rattle.rh_numbers.specs.declared.line_so_far.LineSoFar.TheVariants.{Start, Number, After, Return}
+use Rattle.rh_numbers.specs.declared.line_so_far.LineSoFar.TheVariants.{Head, Start, Number, After, Return}
 use Rattle.rh_numbers.specs.Chunks.{feeds, moved, then_said}
-use Rattle.rh_numbers.specs.Reading.{◌>>=◌, Said, next, said_from, text_said, with_key, with_line}
+use Rattle.rh_numbers.specs.Reading.{◌>>=◌, Said, lines_said, next, said_from, text_said, with_key, with_line}
 use Rattle.rh_numbers.proofs.Fronts.{behind, said_behind}
 
 -- ---- a chunk that ends with a line feed, and what comes then
@@ -83,12 +83,12 @@ both d (keys, None) (more, None) = refl
 both d (keys, None) (more, Some e) = refl
 both d (keys, Some e) second = refl
 
-pub in_chunks : (front rest : List ℕ) → text_said (front ++ 10 ∷ rest) ≡ then_said (feeds front + 1) (text_said (front ++ 10 ∷ [])) (text_said rest)
+pub in_chunks : (front rest : List ℕ) → text_said (front ++ 10 ∷ rest) ≡ then_said (feeds front + 1) (text_said (front ++ 10 ∷ [])) (lines_said rest)
 in_chunks front rest =
-    split [] 1 Start front rest
-    ∙ same_then (text_said (front ++ 10 ∷ [])) (λ more. said_from more (1 + (feeds front + 1)) Start rest) (λ more. behind more (moved (feeds front + 1) (text_said rest)))
+    split [] 1 Head front rest
+    ∙ same_then (text_said (front ++ 10 ∷ [])) (λ more. said_from more (1 + (feeds front + 1)) Start rest) (λ more. behind more (moved (feeds front + 1) (lines_said rest)))
     (λ more.
     ap (λ keys. said_from keys (1 + (feeds front + 1)) Start rest) (sym (append-nil more))
     ∙ said_behind more [] (1 + (feeds front + 1)) Start rest
     ∙ ap (behind more) (said_moved (feeds front + 1) [] 1 Start rest))
-    ∙ both (feeds front + 1) (text_said (front ++ 10 ∷ [])) (text_said rest)
+    ∙ both (feeds front + 1) (text_said (front ++ 10 ∷ [])) (lines_said rest)

@@ -1,5 +1,5 @@
 -- The grammar of texts of numbers: which bytes are one, and of which numbers.
-use Rattle.std.specs.Prelude.{◌≡◌, ◌≢◌, ◌⊎◌, ◌≤◌, ◌+◌, ℕ, suc, List, [], ◌∷◌, ◌++◌, length, All, codes}
+use Rattle.std.specs.Prelude.{◌≡◌, ◌≢◌, ◌⊎◌, ◌≤◌, ◌+◌, ◌==◌, ◌&&◌, if◌then◌else◌, ℕ, suc, List, [], ◌∷◌, ◌++◌, length, All, codes}
 use Rattle.std.specs.Str.Parse.{IsNumeral, digits_value}
 use Rattle.rh_layout.specs.Key.{IsKey}
 use Rattle.rh_layout.specs.declared.limits.TheConstants.{MAX_KEYS}
@@ -38,15 +38,20 @@ pub data AreWholeLines : (text numbers : List ℕ) (count : ℕ) → Type 0 wher
   none : AreWholeLines [] [] 0
   one_more : (line numbers text others : List ℕ) (count : ℕ) → IsOneLine line → Says line numbers → AreWholeLines text others count → AreWholeLines (line ++ (10 ∷ text)) (numbers ++ others) (suc count)
 
+-- a text without the byte order mark, EF BB BF, that may stand at its head
+abbrev pub without_mark : List ℕ → List ℕ
+without_mark (a ∷ b ∷ c ∷ bytes) = if a == 239 && (b == 187 && c == 191) then bytes else a ∷ b ∷ c ∷ bytes
+without_mark bytes = bytes
+
 -- the text is one of these keys, however many
 pub record IsText (text keys : List ℕ) : Type 0 where
-  pub lines : AreLines text keys
+  pub lines : AreLines (without_mark text) keys
   pub in_range : All IsKey keys
 
 -- the text is one of these keys: its numbers are keys, and not too many
 -- "# 3\n 007\r\n\n9" is one of 7 and 9
 pub record IsKeyText (text keys : List ℕ) : Type 0 where
-  pub lines : AreLines text keys
+  pub lines : AreLines (without_mark text) keys
   pub few : length keys ≤ MAX_KEYS
   pub in_range : All IsKey keys
 
@@ -59,7 +64,7 @@ pub record ComesTo (text keys : List ℕ) (number : ℕ) (line : List ℕ) : Typ
   pub front : List ℕ
   pub rest : List ℕ
   pub before : ℕ
-  pub split : text ≡ front ++ (line ++ rest)
+  pub split : without_mark text ≡ front ++ (line ++ rest)
   pub lines : AreWholeLines front keys before
   pub in_range : All IsKey keys
   pub counted : number ≡ 1 + before

@@ -8,7 +8,7 @@ use Rattle.rh_numbers.specs.declared.fault.TextFault.{TextFault}
 use Rattle.rh_numbers.specs.declared.fault.TextFault.TheVariants as faults
 use Rattle.rh_numbers.specs.declared.fault.TextFault.TheVariants.{NotAKey, OutOfRange, TooMany, TooLong}
 use Rattle.rh_numbers.specs.declared.line_so_far.LineSoFar.{LineSoFar}
-use Rattle.rh_numbers.specs.declared.line_so_far.LineSoFar.TheVariants.{Start, Blank, Comment, Number, After, Return, Other}
+use Rattle.rh_numbers.specs.declared.line_so_far.LineSoFar.TheVariants.{Head, MarkOne, MarkTwo, Start, Blank, Comment, Number, After, Return, Other}
 use Rattle.rh_numbers.specs.declared.limits.TheConstants.{MAX_BYTES, PART_BYTES}
 use Rattle.rh_numbers.specs.Grammar.{IsKeyText}
 
@@ -26,9 +26,16 @@ past blank said b = if b == 32 || b == 9 then blank else if b == 13 then Return 
 abbrev pub first : ℕ → LineSoFar
 first b = if is_ascii_digit b then Number (grown 0 b) else past Blank None b
 
+-- after the first byte of a line
+abbrev pub begun : ℕ → LineSoFar
+begun b = if b == 35 then Comment else first b
+
 -- what a line has said after its next byte
 abbrev pub next : LineSoFar → ℕ → LineSoFar
-next Start b = if b == 35 then Comment else first b
+next Head b = if b == 239 then MarkOne else begun b
+next MarkOne b = if b == 187 then MarkTwo else Other
+next MarkTwo b = if b == 191 then Start else Other
+next Start b = begun b
 next Blank b = first b
 next Comment b = Comment
 next (Number n) b = if is_ascii_digit b then Number (grown n b) else past (After n) (Some n) b
@@ -49,6 +56,8 @@ abbrev pub with_line : (keys : List ℕ) (line : ℕ) → LineSoFar → Said
 with_line keys line (Number n) = with_key keys line n
 with_line keys line (After n) = with_key keys line n
 with_line keys line (Return (Some n)) = with_key keys line n
+with_line keys line MarkOne = (keys, Some (NotAKey line))
+with_line keys line MarkTwo = (keys, Some (NotAKey line))
 with_line keys line Other = (keys, Some (NotAKey line))
 with_line keys line _ = (keys, None)
 
@@ -67,9 +76,13 @@ said_from keys line so_far (b ∷ bytes) =
     if b == 10 then with_line keys line so_far >>= (λ more. said_from more (line + 1) Start bytes)
     else said_from keys line (next so_far b) bytes
 
+-- lines from the first on, with no byte order mark before them
+abbrev pub lines_said : List ℕ → Said
+lines_said lines = said_from [] 1 Start lines
+
 -- a text of any length
 abbrev pub text_said : List ℕ → Said
-text_said text = said_from [] 1 Start text
+text_said text = said_from [] 1 Head text
 
 abbrev pub if_no_fault : List ℕ → Option TextFault → Result (List ℕ) TextFault
 if_no_fault keys None = Ok keys

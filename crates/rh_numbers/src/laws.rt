@@ -6,8 +6,8 @@ ghost use Rattle.rh_layout.specs.declared.limits.TheConstants.{MAX_KEY, MAX_KEYS
 ghost use Rattle.rh_numbers.specs.declared.fault.TextFault.TheVariants.{NotAKey, OutOfRange, TooMany};
 ghost use Rattle.rh_numbers.specs.declared.limits.TheConstants.{MAX_BYTES, MAX_READS, PART_BYTES};
 ghost use Rattle.rh_numbers.specs.Chunks.{feeds, then_said};
-ghost use Rattle.rh_numbers.specs.Grammar.{ComesTo, IsKeyText, IsText, Says};
-ghost use Rattle.rh_numbers.specs.Reading.{text_keys, text_said};
+ghost use Rattle.rh_numbers.specs.Grammar.{ComesTo, IsKeyText, IsText, Says, without_mark};
+ghost use Rattle.rh_numbers.specs.Reading.{lines_said, text_keys, text_said};
 ghost use Rattle.rh_numbers.specs.Writing.{text_of};
 
 /// A text has one meaning: what the grammar calls a text of these keys is read to them, with no
@@ -36,10 +36,12 @@ pub fn first_fault(text: &[u8])
         length keys ≡ MAX_KEYS → text_keys text.now ≡ Err TooMany }
 {}
 
-/// A text of any length has one meaning too, and its first faulty line gives its fault.
+/// A text of any length has one meaning too, and its first faulty line gives its fault. A byte
+/// order mark at its head says nothing.
 pub fn any_length(text: &[u8], keys: &[u64])
     ensures given { IsText text.now keys.now → text_said text.now ≡ (keys.now, None) }
     ensures read { text_said text.now ≡ (keys.now, None) → IsText text.now keys.now }
+    ensures mark { text_said text.now ≡ lines_said (without_mark text.now) }
     ensures not_a_key { (number : ℕ) (line : List ℕ) →
         ComesTo text.now keys.now number line →
         ((numbers : List ℕ) → Says line numbers → ⊥) →
@@ -50,10 +52,11 @@ pub fn any_length(text: &[u8], keys: &[u64])
 {}
 
 /// The numbers of a text whose front is whole lines are those of its front, and then those of the
-/// rest. Its first bad line is that of its front, or else that of the rest, counted on.
+/// rest. Its first bad line is that of its front, or else that of the rest, counted on. Only the
+/// front may begin with a byte order mark.
 pub fn text_in_chunks(front: &[u8], rest: &[u8])
     ensures { text_said (front.now ++ 10 ∷ rest.now)
-        ≡ then_said (feeds front.now + 1) (text_said (front.now ++ 10 ∷ [])) (text_said rest.now) }
+        ≡ then_said (feeds front.now + 1) (text_said (front.now ++ 10 ∷ [])) (lines_said rest.now) }
 {}
 
 /// The numbers of texts: how many bytes are too many, and how many are read at once, how often.

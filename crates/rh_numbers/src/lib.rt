@@ -23,9 +23,10 @@
 //! - `first_fault`: after whole lines of keys, a line that the grammar does not know gives
 //!   `NotAKey` with its number. A number above the greatest key gives `OutOfRange`. A key after a
 //!   million gives `TooMany`.
-//! - `any_length`: both laws hold of texts of any length, without that limit.
+//! - `any_length`: both laws hold of texts of any length, without that limit. A text with a byte
+//!   order mark at its head says what it says without it.
 //! - `text_in_chunks`: a text whose front is whole lines says what the front says, and then what
-//!   the rest says, so many lines later.
+//!   the lines of the rest say, so many lines later.
 //! - `fixed_numbers`: a text of 2^63 bytes is too long, and it is read in parts of 8,192.
 #![tactic(auto)]
 

@@ -4,7 +4,7 @@ ghost use Rattle.std.specs.Prelude.{◌≡◌, ◌≤◌, ◌+◌, ℕ, List, If
 ghost use Rattle.rh_layout.specs.Key.{IsKey};
 ghost use Rattle.rh_layout.specs.declared.limits.TheConstants.{MAX_KEY};
 ghost use Rattle.rh_numbers.specs.Chunks.{ended, in_line};
-ghost use Rattle.rh_numbers.specs.Reading.{grown, next, past, with_key, with_line};
+ghost use Rattle.rh_numbers.specs.Reading.{first, grown, next, past, with_key, with_line};
 
 use crate::fault::TextFault;
 use rh_layout::MAX_KEY;
@@ -13,6 +13,12 @@ use rh_layout::MAX_KEY;
 /// No line is kept, so that one may be of any length.
 #[derive(Clone, Copy)]
 pub enum LineSoFar {
+    /// Nothing, at the head of a text: a byte order mark, EF BB BF, may come, and is passed by.
+    Head,
+    /// The first byte of the mark.
+    MarkOne,
+    /// Its first two bytes.
+    MarkTwo,
     /// Nothing.
     Start,
     /// Spaces or tabs.
@@ -55,11 +61,12 @@ impl LineSoFar {
         ensures { result ≡ next self b }
     {
         match self {
-            LineSoFar::Start if b == b'#' => LineSoFar::Comment,
-            LineSoFar::Start | LineSoFar::Blank if b.is_ascii_digit() => LineSoFar::Number(
-                with_digit(0, b),
-            ),
-            LineSoFar::Start | LineSoFar::Blank => past(LineSoFar::Blank, None, b),
+            LineSoFar::Head if b == 0xEF => LineSoFar::MarkOne,
+            LineSoFar::MarkOne if b == 0xBB => LineSoFar::MarkTwo,
+            LineSoFar::MarkTwo if b == 0xBF => LineSoFar::Start,
+            LineSoFar::MarkOne | LineSoFar::MarkTwo => LineSoFar::Other,
+            LineSoFar::Head | LineSoFar::Start if b == b'#' => LineSoFar::Comment,
+            LineSoFar::Head | LineSoFar::Start | LineSoFar::Blank => first(b),
             LineSoFar::Comment => LineSoFar::Comment,
             LineSoFar::Number(n) if b.is_ascii_digit() => LineSoFar::Number(with_digit(n, b)),
             LineSoFar::Number(n) | LineSoFar::After(n) => past(LineSoFar::After(n), Some(n), b),
@@ -74,10 +81,13 @@ impl LineSoFar {
         ensures in_range { IfOk result (λ said. IfSome said IsKey) }
     {
         match self {
-            LineSoFar::Start | LineSoFar::Blank | LineSoFar::Comment | LineSoFar::Return(None) =>
-                Ok(None),
+            LineSoFar::Head
+            | LineSoFar::Start
+            | LineSoFar::Blank
+            | LineSoFar::Comment
+            | LineSoFar::Return(None) => Ok(None),
             LineSoFar::Number(n) | LineSoFar::After(n) | LineSoFar::Return(Some(n)) => key(n),
-            LineSoFar::Other => Err(BadLine::NotAKey),
+            LineSoFar::MarkOne | LineSoFar::MarkTwo | LineSoFar::Other => Err(BadLine::NotAKey),
         }
     }
 }
@@ -101,6 +111,16 @@ fn with_digit(n: u64, digit: u8) -> u64
     n.saturating_mul(10)
         .saturating_add(u64::from(digit - b'0'))
         .min(MAX_KEY + 1)
+}
+
+/// What it has said after a byte with only spaces and tabs before it.
+fn first(b: u8) -> LineSoFar
+    ensures { result ≡ first b }
+{
+    if b.is_ascii_digit() {
+        return LineSoFar::Number(with_digit(0, b));
+    }
+    past(LineSoFar::Blank, None, b)
 }
 
 /// What it has said after a byte that is no digit.

@@ -40,12 +40,12 @@ impl Reading {
     pub fn new(alloc: Global) -> Reading
         ensures keys { keys_read result ≡ [] }
         ensures line { line_reached result ≡ 1 }
-        ensures so_far { so_far_of result ≡ LineSoFar.Start }
+        ensures so_far { so_far_of result ≡ LineSoFar.Head }
     {
         Reading {
             keys: Vec::new(alloc),
             line: 1,
-            so_far: LineSoFar::Start,
+            so_far: LineSoFar::Head,
         }
     }
 

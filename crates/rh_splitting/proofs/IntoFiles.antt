@@ -13,7 +13,7 @@ use Rattle.rh_key_files.proofs.Tested.{good_in_header, header_long}
 use Rattle.rh_layout.specs.declared.limits.TheConstants.{MAX_KEYS}
 use Rattle.rh_numbers.specs.Reading.{SayOnly}
 use Rattle.rh_numbers.specs.declared.fault.TextFault.TheVariants.{Read}
-use Rattle.rh_numbers.specs.declared.line_so_far.LineSoFar.TheVariants.{Start}
+use Rattle.rh_numbers.specs.declared.line_so_far.LineSoFar.TheVariants.{Head}
 use Rattle.rh_parts.specs.Parts.{in_part}
 use Rattle.rh_splitting.specs.declared.fault.FilesFault.{FilesFault}
 use Rattle.rh_splitting.specs.declared.fault.FilesFault.TheVariants as files
@@ -39,7 +39,7 @@ none_taken : (a b : Option (List ℕ)) → Keeps a b → Consumes a b []
 none_taken a b kept = Consumes-kept a a b [] (Consumes-nil a) kept
 
 nothing_said : SayOnly [] []
-nothing_said = (1, Start, λ rest. refl)
+nothing_said = (1, Head, λ rest. refl)
 
 takes_none : {X : Type 0} (source : Source) (a b : Option (List ℕ)) (r : Result X SplitFault) → Keeps a b → TakesOfSource source a b r
 takes_none sources.Text a b r kept = record { before = []; last = []; taken = none_taken a b kept; short = omega arith; keys = []; no_fault = nothing_said }

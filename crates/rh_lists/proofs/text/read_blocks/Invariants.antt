@@ -1,7 +1,7 @@
 use Rattle.std.proofs.Common.{◌≡◌, ◌≤◌, ◌+◌, ◌-◌, ◌++◌, ℕ, List, length}
 use Rattle.rh_bytes.specs.Counting.{failures_of, inner_of}
 use Rattle.rh_numbers.specs.declared.limits.TheConstants.{MAX_BYTES}
-use Rattle.rh_numbers.specs.declared.line_so_far.LineSoFar.TheVariants.{Start}
+use Rattle.rh_numbers.specs.declared.line_so_far.LineSoFar.TheVariants.{Head}
 use Rattle.rh_lists.specs.declared.limits.TheConstants.{BLOCK_BYTES}
 use Rattle.rh_lists.specs.Parts.{IsReadTo}
 use Rattle.rh_lists.proofs.Texts.{Going, Taken}
@@ -9,7 +9,7 @@ use Rattle.rh_lists.proofs.text.read_blocks.Given as goal
 
 abbrev pub invariant-loop-passed : goal.invariant-loop-passed
 invariant-loop-passed g l = record {
-  going : (before : List ℕ) → IsReadTo Start before l.fn.begun → Going (before ++ l.fn.block.items) (g.R.Read.remaining (inner_of l.fn.reader)) (g.R.Read.remaining (inner_of l.reader)) l.text l.block.items;
+  going : (before : List ℕ) → IsReadTo Head before l.fn.begun → Going (before ++ l.fn.block.items) (g.R.Read.remaining (inner_of l.fn.reader)) (g.R.Read.remaining (inner_of l.reader)) l.text l.block.items;
   lines : l.text.lines ≤ BLOCK_BYTES + l.passed;
   size : length l.block.items ≡ length l.fn.block.items;
   room : length l.next.items ≡ length l.fn.block.items;

@@ -3,7 +3,7 @@ use Rattle.std.proofs.lemmas.Result.{err_from_is_err_and}
 use Rattle.rh_numbers.specs.declared.line_so_far.LineSoFar.TheVariants.{Other}
 use Rattle.rh_numbers.specs.Parts.{keys_read, said_by}
 use Rattle.rh_numbers.specs.Reading.{Stops, next, said_from}
-use Rattle.rh_numbers.proofs.Chunks.{other_stays}
+use Rattle.rh_numbers.proofs.Head.{other_stays}
 use Rattle.rh_numbers.proofs.Fronts.{stops_then}
 use Rattle.rh_numbers.proofs.Spelling.{at_feed, walk}
 use Rattle.rh_numbers.proofs.reading.Reading.step.Goals as goal
