@@ -165,7 +165,7 @@ pub const PLAN: &str =
     "Write how many keys each part would have, and how many parts would do, and no file";
 
 /// The argument NAME.
-pub const NAME: &str = "Name of the list: 1 to 200 bytes, no `/`, space or control character";
+pub const NAME: &str = "Name of the list: 1 to 200 bytes of printable ASCII, no space or `/`";
 
 /// What `split` reads and writes.
 pub const SPLIT_FORMATS: &str = "\
