@@ -88,9 +88,10 @@ pub const LIST_FILES: &str = "Texts of numbers or key files; - is standard input
 /// What the commands on lists read.
 pub const LISTS: &str = "\
 A FILE is a text of numbers, or a key file of either version, which its first four bytes tell. A
-line of a text is a number from 0 to 4611686018427387902 in decimal digits, with spaces before and
-after it. A line with no more than spaces is skipped, and so is one that begins with #. Numbers may
-come in any order and any number of times. A line may end with CR LF; the last may lack its LF.
+line of a text is a number from 0 to 4611686018427387902 in decimal digits, with spaces and tabs
+before and after it. A line with no more than these is skipped, and so is one that begins with #.
+Numbers may come in any order and any number of times. A line may end with CR LF; the last may lack
+its LF. A byte order mark at the head is passed by.
 
 Nothing is written where a list is refused: the first one that is is told, with its first bad line.
 The lists are held in memory: at most 24 bytes for each number of all lists, 32 MB, and 8 MB for
@@ -107,9 +108,9 @@ with their repeats, to standard output.";
 
 /// What `pack` reads and writes.
 pub const PACK_FORMATS: &str = "\
-A line of the text is a number from 0 to 4611686018427387902 in decimal digits, with spaces before
-and after it. A line with no more than spaces is skipped, and so is one that begins with #. There
-are at most 1000000 numbers.
+A line of the text is a number from 0 to 4611686018427387902 in decimal digits, with spaces and tabs
+before and after it. A line with no more than these is skipped, and so is one that begins with #. A
+byte order mark at the head is passed by. There are at most 1000000 numbers.
 
 A key file is the bytes RHK2, the number of keys, and the keys one after another. The number and
 each key are 8 bytes, the highest byte first. Nothing is written where the text is refused.
