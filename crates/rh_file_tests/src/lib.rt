@@ -9,6 +9,8 @@ mod check;
 #[cfg(test)]
 mod dump;
 #[cfg(test)]
+mod excerpts;
+#[cfg(test)]
 mod failures;
 #[cfg(test)]
 mod files;

@@ -12,8 +12,12 @@
 -- Spelling: a text of keys is read to them.
 -- Faults: the first faulty line gives the fault.
 -- Lines: numbers written one after another.
+-- Excerpts: the line of a text that is shown.
+-- Searching: a line that is looked for in one part after the other.
 
 pub mod Lines
+pub mod Excerpts
+pub mod Searching
 pub mod Head
 pub mod Fronts
 pub mod Parts

@@ -3,3 +3,5 @@ pub mod Reading
 pub mod Parts
 pub mod Chunks
 pub mod Writing
+pub mod Excerpt
+pub mod Search

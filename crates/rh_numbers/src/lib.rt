@@ -27,24 +27,32 @@
 //!   order mark at its head says what it says without it.
 //! - `text_in_chunks`: a text whose front is whole lines says what the front says, and then what
 //!   the lines of the rest say, so many lines later.
+//! - `line_at`: of a reader whose bytes are known, what it answers is shown as their line with this
+//!   number: at most 40 bytes of it in quotes, printable ASCII as it is, any other byte as `\xEF`. It
+//!   answers `None` only where there is no such line or a read failed, or of 2^63 bytes or more.
 //! - `fixed_numbers`: a text of 2^63 bytes is too long, and it is read in parts of 8,192.
 #![tactic(auto)]
 
 mod chunk;
+mod excerpt;
 mod fault;
 mod laws;
 mod limits;
 mod line_so_far;
 mod plain;
 mod reading;
+mod search;
+mod shown_byte;
 mod text;
 mod writing;
 
 pub use chunk::{Chunk, ChunkEnd, read_chunk};
+pub use excerpt::{Excerpt, SHOWN_BYTES};
 pub use fault::TextFault;
 pub use laws::{any_length, first_fault, fixed_numbers, one_meaning, text_in_chunks};
 pub use limits::{MAX_BYTES, MAX_READS, PART_BYTES};
 pub use line_so_far::{BadLine, LineSoFar};
 pub use reading::Reading;
+pub use search::line_at;
 pub use text::read_numbers;
 pub use writing::write_numbers;
