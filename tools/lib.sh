@@ -1,0 +1,37 @@
+# What the scripts beside it share: from which sources something is built. It is not run by itself; a script that sources it has
+# $root, the top of the repository.
+
+# stands_on CRATE: $crates are this crate and those of the repository that it stands on, as crates.txt names them.
+stands_on() {
+    local -A below=() known=(["$1"]=yes)
+    local line crate number
+    while IFS= read -r line; do
+        [[ $line == [a-z]*:* ]] || continue
+        crate=${line%%:*}
+        below[${crate%% *}]=${line#*:}
+    done <"$root/crates.txt"
+    crates=("$1")
+    for ((number = 0; number < ${#crates[@]}; number++)); do
+        for crate in ${below[${crates[number]}]-}; do
+            # (those of the toolchain have no line)
+            if [[ -v below[$crate] && ! -v known[$crate] ]]; then
+                known[$crate]=yes
+                crates+=("$crate")
+            fi
+        done
+    done
+}
+
+# is_current FILE CRATE: the file is there, and no source of the crate that it was built from is newer. Other files, as an editor
+# leaves some, are no sources.
+is_current() {
+    local crate part folders=() crates
+    [ -e "$1" ] || return
+    stands_on "$2"
+    for crate in "${crates[@]}"; do
+        for part in src specs proofs; do
+            [ ! -d "$root/crates/$crate/$part" ] || folders+=("$root/crates/$crate/$part")
+        done
+    done
+    [ -z "$(find "$root/crates.txt" "${folders[@]}" -type f \( -name '*.rt' -o -name '*.antt' -o -name crates.txt \) -newer "$1" -print -quit)" ]
+}
