@@ -1,5 +1,6 @@
-# What the scripts beside it share: from which sources something is built. It is not run by itself; a script that sources it has
-# $root, the top of the repository.
+# What the scripts beside it share, and those of tests/: what is built from which sources. It is not run by itself; a script that
+# sources it has $root, the top of the repository.
+# shellcheck shell=bash disable=SC2154
 
 # stands_on CRATE: $crates are this crate and those of the repository that it stands on, as crates.txt names them.
 stands_on() {
@@ -34,4 +35,20 @@ is_current() {
         done
     done
     [ -z "$(find "$root/crates.txt" "${folders[@]}" -type f \( -name '*.rt' -o -name '*.antt' -o -name crates.txt \) -newer "$1" -print -quit)" ]
+}
+
+# is_built THING: it is built from its sources as they stand: a program of crates/, or the library.
+is_built() {
+    case $1 in
+        library) [ -e "$root/crates/rh_c/out/librhset.a" ] && is_current "$root/crates/rh_c/out/librhset.so" rh_c ;;
+        *) is_current "$root/crates/$1/out/$1" "$1" ;;
+    esac
+}
+
+# build THING: proves and builds it, and tells a line of each crate on standard error.
+build() {
+    case $1 in
+        library) "$root/tools/library" ;;
+        *) "$root/tools/build" "$1" </dev/null ;;
+    esac
 }
