@@ -5,6 +5,7 @@ set -uo pipefail
 root=$(dirname "$(readlink -f "${BASH_SOURCE[0]}")")/..
 work=$(mktemp -d) || exit 1
 trap 'rm -rf "$work"' EXIT
+. "$root/tools/lib.sh" || exit 1
 test_name=${0##*/}
 failed=0
 
@@ -29,11 +30,19 @@ finish() {
     exit "$failed"
 }
 
-# built PROGRAM..: the programs are built where they are not, or the script ends here.
-built() {
-    local program
-    for program in "$@"; do
-        "$root/$program" --version >/dev/null || fail "$program is not there"
+# needs THING..: what the script needs of what is built here: rhset, rhkeys, rhplay, rh_phase_bench, the library, or nothing. It is
+# built where it is not, or the script ends here, with status 77 where there is no toolchain. tests/run reads this line too, so that
+# it can have all built first.
+needs() {
+    local thing
+    [ "$*" != nothing ] || return 0
+    for thing in "$@"; do
+        if is_built "$thing"; then continue; fi
+        command -v rt >/dev/null || {
+            echo "$test_name: $thing is not built, and there is no rt here, not run"
+            exit 77
+        }
+        build "$thing" || fail "$thing is not built"
     done
 }
 
