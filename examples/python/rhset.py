@@ -4,8 +4,8 @@
     >>> rhset.intersect([4, 9, 16, 25, 36, 1], [2, 4, 8, 16, 32])
     [4, 16]
 
-`./install --prefix DIR --library` makes the library. It is looked for beside this file, in the folder that the variable
-RHSET_LIBRARY names, and where the system looks for libraries.
+`./install --prefix DIR --library` makes the library, and puts it into DIR/lib and this file into DIR/share/rhset/python. It is looked
+for in the folder that the variable RHSET_LIBRARY names, beside this file or in DIR/lib, and where the system looks for libraries.
 
 `Set` is a set of such numbers, with all that a set of Python can; its snapshot can be kept in a file, which `rhset check` reads:
 
@@ -49,7 +49,11 @@ class _Detail(ctypes.Structure):
 
 def _library():
     beside = os.path.dirname(os.path.abspath(__file__))
-    for folder in (os.environ.get("RHSET_LIBRARY"), beside):
+    folders = [os.environ.get("RHSET_LIBRARY"), beside]
+    # where `install` puts this file
+    if beside.endswith("/share/rhset/python"):
+        folders.append(beside.removesuffix("share/rhset/python") + "lib")
+    for folder in folders:
         if folder and os.path.exists(f"{folder}/librhset.so"):
             return ctypes.CDLL(f"{folder}/librhset.so")
     return ctypes.CDLL("librhset.so")
