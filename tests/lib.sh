@@ -84,12 +84,17 @@ run() {
 # expect STATUS OUTPUT TOLD INPUT PROGRAM ARGUMENT..: the program of the repository, with these arguments on this input, ends with
 # this status, writes this and tells this, byte by byte. OUTPUT, TOLD and INPUT are texts or @FILE, as `text` takes them.
 expect() {
+    expect_of "${@:1:4}" "$root/$5" "${@:6}"
+}
+
+# expect_of STATUS OUTPUT TOLD INPUT COMMAND..: the same of any command.
+expect_of() {
     local status=$1
     text expected_output "$2"
     text expected_told "$3"
     text input "$4"
     shift 4
-    run "$work/input" "$root/$1" "${@:2}"
+    run "$work/input" "$@"
     if [ "$ended" != "$status" ] || ! cmp -s "$work/output" "$work/expected_output" ||
         ! cmp -s "$work/told" "$work/expected_told"; then
         wrong "not as expected: $*, status $ended, wanted $status" "$work"/{,expected_}{output,told}
@@ -106,6 +111,25 @@ expect_line() {
     if [ "$ended" != "$status" ] || ! grep -qx -- "$line" "$work/told"; then
         wrong "not as expected: $*, status $ended, wanted $status and the line $line" "$work/told"
     fi
+}
+
+# nobody COMMAND..: runs it as a user without rights: where root runs the script as one whom no file belongs to.
+nobody() {
+    if [ "$(id -u)" = 0 ]; then setpriv --reuid 65534 --regid 65534 --clear-groups -- "$@"; else "$@"; fi
+}
+
+# has_nobody PROGRAM: such a user can run commands here, in the work folder, and there the built program too. Where none can, that is
+# told.
+has_nobody() {
+    chmod 755 "$work" && cp "$root/crates/$1/out/$1" "$work/$1" || fail "$1 is not copied"
+    nobody true 2>/dev/null && return
+    echo "$test_name: not run, as no command runs here as a user without rights: what such a user is told"
+    return 1
+}
+
+# mode_is MODE FILE: the file of the work folder has this mode, as chmod takes it.
+mode_is() {
+    [ "$(stat -c %a "$work/$2")" = "$1" ] || wrong "$2 has the mode $(stat -c %a "$work/$2"), wanted $1"
 }
 
 # is_part_left: a snapshot that was begun is left in the work folder.
