@@ -26,7 +26,7 @@ stands_on() {
 # is_current FILE CRATE: the file is there, and no source of the crate that it was built from is newer. Other files, as an editor
 # leaves some, are no sources.
 is_current() {
-    local crate part folders=() crates
+    local crate part folders=() crates sources=(-name '*.rt' -o -name '*.antt' -o -name crates.txt)
     [ -e "$1" ] || return
     stands_on "$2"
     for crate in "${crates[@]}"; do
@@ -34,7 +34,7 @@ is_current() {
             [ ! -d "$root/crates/$crate/$part" ] || folders+=("$root/crates/$crate/$part")
         done
     done
-    [ -z "$(find "$root/crates.txt" "${folders[@]}" -type f \( -name '*.rt' -o -name '*.antt' -o -name crates.txt \) -newer "$1" -print -quit)" ]
+    [ -z "$(find "$root/crates.txt" "${folders[@]}" -type f \( "${sources[@]}" \) -newer "$1" -print -quit)" ]
 }
 
 # is_built THING: it is built from its sources as they stand: a program of crates/, or the library.
