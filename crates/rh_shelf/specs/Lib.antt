@@ -1,2 +1,3 @@
+pub mod Places
 pub mod Shelf
 pub mod Kinds

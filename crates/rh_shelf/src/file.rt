@@ -5,6 +5,7 @@ ghost use Rattle.rh_bytes.specs.Counting.{Rose};
 ghost use Rattle.rh_shelf.specs.Kinds.{failed_files};
 
 use crate::beside::create_beside;
+use crate::place::check_place;
 use crate::shelf::{Shelf, ShelfFault};
 use std::alloc::Global;
 use std::fs::{self, Files, OpenFile};
@@ -59,8 +60,8 @@ impl<F: Files> Shelf for FileShelf<'_, F> {
     }
 
     /// The bytes are written to a new file beside the path, which then takes its place: a run that
-    /// is cut leaves there what stood there before. No other file is touched. A link or a device at
-    /// the path is replaced, and not what it leads to.
+    /// is cut leaves there what stood there before. No other file is touched. A link to a plain file
+    /// is replaced, and not what it leads to; what else is no plain file stays.
     fn put(&mut self, alloc: Global, path: &str, bytes: &[u8]) -> Result<(), ShelfFault> {
         match put_whole(alloc, self.files, path, bytes) {
             Ok(()) => Ok(()),
@@ -71,6 +72,7 @@ impl<F: Files> Shelf for FileShelf<'_, F> {
 
 /// Where it fails, the new file is removed again, as far as that can be done.
 fn put_whole<F: Files>(alloc: Global, files: &F, path: &str, bytes: &[u8]) -> io::Result<()> {
+    check_place(alloc, files, path)?;
     let (file, beside) = create_beside(alloc, files, path)?;
     let written = write_whole(file, bytes).and_then(|()| fs::rename(files, &beside, path));
     if written.is_err() {

@@ -9,6 +9,8 @@
 //! - `FileShelf` is real files, of which no contract tells the bytes. Each answer that a file could
 //!   not be opened or written has raised its count, and an answer without a fault leaves it.
 //! - Want of memory raises the count of either.
+//! - A file is put where the system finds a plain file or nothing (`is_free`). That nothing else is
+//!   replaced is tested.
 //! - `CountedShelf` counts the readers that it is shown of which a read failed, and nothing else.
 //!   Each `Shelf` may stand in its place (`Lender`), as one that counts none.
 #![tactic(auto)]
@@ -17,6 +19,7 @@ mod beside;
 mod file;
 mod lender;
 mod memory;
+mod place;
 mod shelf;
 
 pub use beside::{BESIDE, create_beside};
