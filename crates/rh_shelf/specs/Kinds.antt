@@ -1,6 +1,7 @@
 -- The shelf in memory, and that of real files.
 use Rattle.std.specs.Prelude.{ℕ, Option, Some, option_map}
 use Rattle.std.specs.BTreeMap.{get_by_text}
+use Rattle.std.specs.declared.io.ErrorKind.{ErrorKind}
 use Rattle.rh_shelf.specs.Shelf.{Files, ShelfState, uncounted}
 use Rattle.rh_shelf.specs.declared.memory.MemShelf.{MemShelf}
 use Rattle.rh_shelf.specs.declared.file.FileShelf.{FileShelf}
@@ -21,6 +22,10 @@ in_memory s = uncounted (λ shelf. Some (files_of shelf)) failures_in s
 -- how often a real file could not be opened or written
 abbrev pub failed_files : {F : Type 0} → FileShelf F → ℕ
 failed_files s = s.failures
+
+-- what the system said of the last one of these
+abbrev pub last_failure : {F : Type 0} → FileShelf F → Option ErrorKind
+last_failure s = s.last_failure
 
 -- the shelf of which the failed reads are counted
 abbrev pub shelf_of : {S : Type 0} → CountedShelf S → S

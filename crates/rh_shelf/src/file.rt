@@ -1,8 +1,9 @@
 //! The files of the current folder, as a shelf.
 
-ghost use Rattle.std.specs.Prelude.{◌≡◌, ◌⊎◌};
+ghost use Rattle.std.specs.Prelude.{◌≡◌, ◌⊎◌, None, Some};
+ghost use Rattle.std.specs.IoError.{error_kind};
 ghost use Rattle.rh_bytes.specs.Counting.{Rose};
-ghost use Rattle.rh_shelf.specs.Kinds.{failed_files};
+ghost use Rattle.rh_shelf.specs.Kinds.{failed_files, last_failure};
 
 use crate::beside::create_beside;
 use crate::place::check_place;
@@ -17,14 +18,27 @@ use std::io::{self, BufReader, ErrorKind, Write};
 pub struct FileShelf<'a, F> {
     files: &'a F,
     failures: u64,
+    last_failure: Option<ErrorKind>,
 }
 
 impl<'a, F> FileShelf<'a, F> {
     /// A shelf over these files, which has not failed yet.
     pub fn new(files: &'a F) -> FileShelf<'a, F>
-        ensures { failed_files result ≡ 0 }
+        ensures none { failed_files result ≡ 0 }
+        ensures no_failure { last_failure result ≡ None }
     {
-        FileShelf { files, failures: 0 }
+        FileShelf {
+            files,
+            failures: 0,
+            last_failure: None,
+        }
+    }
+
+    /// What the system said of the last file that could not be opened or written.
+    pub fn last_failure(&self) -> Option<ErrorKind>
+        ensures { result ≡ last_failure self.now }
+    {
+        self.last_failure
     }
 }
 
@@ -33,7 +47,9 @@ impl<F> FileShelf<'_, F> {
     fn fault_of(&mut self, error: &io::Error, fault: ShelfFault) -> ShelfFault
         ensures told { (result ≡ ShelfFault.Memory) ⊎ (result ≡ fault) }
         ensures counted { Rose self.old.failures self.new.failures }
+        ensures kept { last_failure self.new ≡ Some (error_kind error.now) }
     {
+        self.last_failure = Some(error.kind());
         self.failures = self.failures.saturating_add(1);
         if error.kind() == ErrorKind::OutOfMemory {
             return ShelfFault::Memory;

@@ -11,12 +11,15 @@ use std::io::{self, ErrorKind};
 const PROCESSES: &str = "/proc/";
 
 /// Nothing stands at the path, or a plain file, or a link to one. A link to a stream of a process is
-/// none, whatever that stream is. Else the error is `AlreadyExists`, or `OutOfMemory`.
+/// none, whatever that stream is. Else the error is `InvalidInput`; or `OutOfMemory`, or what the
+/// system says where it cannot tell what stands there.
 pub(crate) fn check_place<F: Files>(alloc: Global, files: &F, path: &str) -> io::Result<()> {
-    if is_free(&fs::metadata(files, path)) && !leads_to_stream(alloc, files, path)? {
+    let found = fs::metadata(files, path);
+    if is_free(&found) && !leads_to_stream(alloc, files, path)? {
         return Ok(());
     }
-    Err(io::Error::from(ErrorKind::AlreadyExists))
+    found?;
+    Err(io::Error::from(ErrorKind::InvalidInput))
 }
 
 /// Whether a file may be put where the system finds this.
