@@ -13,6 +13,11 @@
 //! - `buffered_reader`, `buffered_writer`: the stream behind an empty buffer of 8,192 bytes, or
 //!   want of memory.
 //! - `Outlet` writes what is written to it to its writer, and nothing else.
+//! - `ProgressLine`: what it writes to its terminal, and when a line stands there. Before another
+//!   line, and where it is cleared, the one that stands is taken away.
+//! - `Watched` reads what its reader has.
+//! - `quoted`: the text in which bytes are shown, by the definition `specs/Quoted.antt`.
+//! - `note_on_file`, `reason_of`: the path, and the reason by what the system says.
 //! - `finish`: a fault of the work of a command comes first, then that its output could not be
 //!   written out; else it is done, and its buffer is empty. Of a writer that tells its bytes all is
 //!   written, or a write failed, and none is lost or comes twice.
@@ -22,6 +27,9 @@ mod closed;
 mod file;
 mod outlet;
 mod program;
+mod progress;
+mod reason;
+mod showing;
 mod status;
 mod streams;
 
@@ -29,5 +37,8 @@ pub use closed::hold_closed;
 pub use file::open;
 pub use outlet::Outlet;
 pub use program::{answer, words};
+pub use progress::ProgressLine;
+pub use reason::{FileNote, Reason, note_on, note_on_file, reason_of};
+pub use showing::quoted;
 pub use status::{ProgramFault, Status};
 pub use streams::{buffered_reader, buffered_writer, finish};

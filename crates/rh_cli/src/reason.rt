@@ -1,0 +1,86 @@
+//! Why the system did not open, read or write a file.
+
+ghost use Rattle.std.specs.Prelude.{◌≡◌, IfSome, string_bytes};
+ghost use Rattle.rh_cli.specs.Notes.{Explains, reason_of};
+
+use std::alloc::Global;
+use std::fs::{self, Files, Metadata};
+use std::io::{self, ErrorKind};
+use thiserror::Error;
+
+/// What the system says of a file that was not opened, read or written.
+#[derive(Clone, Copy, Debug, PartialEq, Eq, Error)]
+pub enum Reason {
+    #[error("no such file")]
+    NoFile,
+    #[error("no such folder")]
+    NoFolder,
+    #[error("permission denied")]
+    NoRight,
+    #[error("is a directory")]
+    Folder,
+    #[error("is no plain file")]
+    NotPlain,
+    #[error("no space left")]
+    NoSpace,
+}
+
+/// A file, and why the system did not open, read or write it.
+#[derive(Debug, Drop, Error)]
+#[error("{path}: {reason}")]
+pub struct FileNote {
+    pub path: String,
+    pub reason: Reason,
+}
+
+/// The file at the path, where the system says now why it cannot be opened or read. What is no
+/// plain file is not opened: that may wait for another program.
+pub fn note_on_file<F: Files>(alloc: Global, files: &F, path: &str) -> Option<FileNote>
+    ensures { IfSome result (λ note. string_bytes note.path ≡ path.now) }
+{
+    let found = fs::metadata(files, path);
+    let is_plain = found.as_ref().is_ok_and(|metadata| metadata.is_file());
+    let reason = match reason_found(&found) {
+        None if is_plain => reason_opened(fs::open(files, path).err()),
+        reason => reason,
+    };
+    note_on(alloc, path, reason?)
+}
+
+/// The file at this path, with this reason. It takes memory for the path.
+pub fn note_on(alloc: Global, path: &str, reason: Reason) -> Option<FileNote>
+    ensures path { IfSome result (λ note. string_bytes note.path ≡ path.now) }
+    ensures reason { IfSome result (λ note. note.reason ≡ reason) }
+{
+    let Ok(path) = String::from_str(alloc, path) else {
+        return None;
+    };
+    Some(FileNote { path, reason })
+}
+
+/// Why what the system finds at a path cannot be opened or read, as far as it says so.
+fn reason_found(found: &io::Result<Metadata>) -> Option<Reason>
+    ensures { Explains found.now result }
+{
+    match found {
+        Ok(metadata) if metadata.is_dir() => Some(Reason::Folder),
+        Ok(_) => None,
+        Err(error) => reason_of(error.kind()),
+    }
+}
+
+fn reason_opened(refused: Option<io::Error>) -> Option<Reason> {
+    reason_of(refused?.kind())
+}
+
+/// Why a file was not opened or written, of which the system says this.
+pub fn reason_of(kind: ErrorKind) -> Option<Reason>
+    ensures { result ≡ reason_of kind }
+{
+    match kind {
+        ErrorKind::NotFound => Some(Reason::NoFile),
+        ErrorKind::PermissionDenied => Some(Reason::NoRight),
+        ErrorKind::StorageFull => Some(Reason::NoSpace),
+        _ => None,
+    }
+}
