@@ -3,7 +3,7 @@ use Rattle.std.proofs.Common.{◌≡◌, ◌∙◌, ap, sym, subst, refl, arith,
 use Rattle.std.proofs.Common.{slice_index_or, take-append-drop}
 use Rattle.std.proofs.lemmas.List.{take_all, take_more, length-append, length-map}
 use Rattle.std.proofs.lemmas.Grind.{flat_map-append}
-use Rattle.std.specs.Prelude.{map}
+use Rattle.std.specs.Prelude.{IfSome, map}
 use Rattle.std.specs.FinSet as finset
 use Rattle.rh_layout.specs.declared.limits.TheConstants.{MIN_BITS}
 use Rattle.rh_script.specs.declared.script.Command.{Command}
@@ -29,6 +29,8 @@ use Rattle.rh_script_run.specs.Environment.{Environment}
 use Rattle.rh_script_run.specs.Ends.{AllDone, EndsBy, LeavesFiles, SaysAll, Stopped, step_in}
 use Rattle.rh_script_run.specs.Steps.{ActsOn, ComesAfter, HasList, ListsStand, Named, StepDone, names_of, world_of}
 use Rattle.rh_script_run.specs.Reached.{CarriedOut, Moment, Reached}
+use Rattle.rh_script_run.specs.Wanted.{IsHeldAt}
+use Rattle.rh_script_run.specs.declared.wanted.Wanted.{Wanted}
 use Rattle.rh_script_run.proofs.FileLemmas.{given_file}
 use Rattle.rh_script.proofs.Order.{snapshot_is_new}
 use Rattle.rh_script.proofs.Positions.{has_place}
@@ -275,6 +277,21 @@ module _ (files : Files) (steps : List Numbered) (i : ℕ) (step : Step) (old : 
     started = started;
     ends = subst (λ said. EndsBy (step_in world_here said now.environment new) cause) here.said ends.0;
     files_now = subst (λ said. LeavesFiles (step_in world_here said now.environment new) so_far.done.made cause) here.said ends.1;
+  }
+
+  -- what is held there, where it is told
+  pub held_where : (wanted : Option Wanted) → IfSome wanted (λ w. w.held ≡ finset.len now.set.keys) → IfSome wanted (λ w. IsHeldAt files steps step.line w.held)
+  held_where None held = tt
+  held_where (Some w) held = record {
+    before = take i steps;
+    step = here.numbered;
+    after = drop (i + 1) steps;
+    parts = here.parts;
+    line = sym here.line;
+    world = world_here;
+    accounts = so_far.done.accounts;
+    means = so_far.done.means;
+    held = held;
   }
 
 pub all_carried_out : (files : Files) (items : List Step) (steps : List Numbered) (i : ℕ) (old : Environment) (now : Moment) → map planned_as items ≡ plan_of steps → length items ≤ i → Reached files (take i steps) old now → CarriedOut files steps now.set old now.environment

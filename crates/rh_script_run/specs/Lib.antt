@@ -7,3 +7,4 @@ pub mod Outside
 pub mod Reached
 pub mod Steps
 pub mod Told
+pub mod Wanted

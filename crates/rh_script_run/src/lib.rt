@@ -32,6 +32,8 @@
 //! - Where `run` answers `Ok`, no failure of the shelf, of its files or of the writer and no
 //!   refused start was counted meanwhile. Nor was a failed read counted, or a refused start, where
 //!   another fault is told.
+//! - `run_noting` promises what `run` does. The number of keys held that it answers besides is that
+//!   after the commands before, by the meaning of the script, but where a write failed.
 //! - `runs_agree`: two runs of one script over the same files that both end by themselves have one
 //!   result, leave the same files, and append the same text. A run that ends by `Missing` does so
 //!   by itself where the shelf counted no failure, or is known not to have the file.
@@ -51,11 +53,13 @@ mod running;
 mod steps;
 mod told;
 mod twice;
+mod wanted;
 mod workspace;
 
 pub use fault::RunFault;
 pub use laws::{ends_as_meant, only_what_is_read_matters, runs_agree, texts_agree};
 pub use report::Report;
 pub use rh_operations::Cause;
-pub use running::run;
+pub use running::{run, run_noting};
 pub use twice::run_twice;
+pub use wanted::Wanted;

@@ -1,6 +1,6 @@
 //! The run of a script.
 
-ghost use Rattle.std.specs.Prelude.{◌≡◌, ◌≢◌, Some, IfErr, OnErr, OnOk, length};
+ghost use Rattle.std.specs.Prelude.{◌≡◌, ◌≢◌, Some, IfErr, IfSome, OnErr, OnOk, length};
 ghost use Rattle.rh_bytes.specs.Counting.{failures_of};
 ghost use Rattle.rh_script.specs.Script.{steps_of};
 ghost use Rattle.rh_script.specs.Steps.{instruction_as};
@@ -11,11 +11,13 @@ ghost use Rattle.rh_script_run.specs.Environment.{environment_of};
 ghost use Rattle.rh_script_run.specs.Files.{FileMap};
 ghost use Rattle.rh_script_run.specs.Steps.{ComesAfter, HasList, ListsGrow, Named, Performs};
 ghost use Rattle.rh_script_run.specs.Steps.{StateEnds, world_of};
+ghost use Rattle.rh_script_run.specs.Wanted.{IsHeldAt};
 
 use crate::fault::RunFault;
 use crate::report::Report;
 use crate::steps::{clear_step, restore_step, save_step, snapshot_step, use_step};
 use crate::told::{Told, tell, told_of};
+use crate::wanted::{Wanted, wanted_by};
 use crate::workspace::Workspace;
 use rh_bytes::Counted;
 use rh_edit::SeqSet;
@@ -56,9 +58,35 @@ pub fn run<T: Threads + Wait + Sync, S: Lender, N: Runner, W: Write>(
         (outside S.state N.refused_starts shelf.new runner.new)
         (failures_of writer.old) (failures_of writer.new) (cause_of result) }
 {
+    let (outcome, _) = run_noting(rt, alloc, script, shelf, runner, writer);
+    outcome
+}
+
+/// As `run`, and answers besides what the command wanted at which the run ended, where that acts on
+/// a list.
+pub fn run_noting<T: Threads + Wait + Sync, S: Lender, N: Runner, W: Write>(
+    rt: &T,
+    alloc: Global,
+    script: &Script,
+    shelf: &mut S,
+    runner: &mut N,
+    writer: &mut Counted<W>,
+) -> (Result<Report, RunFault>, Option<Wanted>)
+    ensures meant { (files : Files) → (S.state shelf.old).files ≡ Some files →
+        Ends files (steps_of script.now)
+        (environment_of S.state N.refused_starts W.contents shelf.old runner.old writer.old)
+        (environment_of S.state N.refused_starts W.contents shelf.new runner.new writer.new)
+        result.0 }
+    ensures leaves { LeavesAll (outside S.state N.refused_starts shelf.old runner.old)
+        (outside S.state N.refused_starts shelf.new runner.new)
+        (failures_of writer.old) (failures_of writer.new) (cause_of result.0) }
+    ensures wanted { (files : Files) → (S.state shelf.old).files ≡ Some files →
+        IfErr result.0 (λ fault. fault.cause ≢ Cause.Write →
+        IfSome result.1 (λ wanted. IsHeldAt files (steps_of script.now) fault.line wanted.held)) }
+{
     let Ok(set) = SeqSet::new(alloc, MIN_BITS) else {
         let (line, cause) = (0, Cause::Memory);
-        return Err(RunFault { line, cause });
+        return (Err(RunFault { line, cause }), None);
     };
     let lists = Vec::new(alloc);
     let mut workspace = Workspace { set, lists };
@@ -67,14 +95,15 @@ pub fn run<T: Threads + Wait + Sync, S: Lender, N: Runner, W: Write>(
         let told = carry_out(&host, shelf, runner, writer, &mut workspace, step);
         if let Err(cause) = told {
             let line = step.line;
-            return Err(RunFault { line, cause });
+            return (Err(RunFault { line, cause }), wanted_by(&workspace, step));
         }
     }
-    Ok(Report {
+    let report = Report {
         commands: script.len() as u64,
         held: workspace.set.len() as u64,
         bits: workspace.set.bits(),
-    })
+    };
+    (Ok(report), None)
 }
 
 /// Carries a step out and writes its report.

@@ -1,9 +1,10 @@
-use Rattle.std.proofs.Common.{◌∙◌, ap, inr, refl, length, rules}
+use Rattle.std.proofs.Common.{◌≡◌, ◌∙◌, IfSome, ap, inr, refl, length, rules, subst}
+use Rattle.std.specs.FinSet.{len}
 use Rattle.rh_script.specs.Names.{names_in}
 use Rattle.rh_script.specs.Script.{steps_of}
 use Rattle.rh_script_run.proofs.StepLemmas.{leaves_later}
-use Rattle.rh_script_run.proofs.RunLemmas.{all_carried_out, all_done, comes_after, goes_on, has_list, more_lists, reached_start, step_at, stops_here}
-use Rattle.rh_script_run.proofs.running.run.Goals as goal
+use Rattle.rh_script_run.proofs.RunLemmas.{all_carried_out, all_done, comes_after, goes_on, has_list, held_where, more_lists, reached_start, step_at, stops_here}
+use Rattle.rh_script_run.proofs.running.run_noting.Goals as goal
 
 pub carry_out-told-requires-after_bounds : goal.carry_out-told-requires-after_bounds
 carry_out-told-requires-after_bounds g c κs within =
@@ -70,3 +71,11 @@ returns-in-Err-clause-leaves g c =
       };
       writer = record { fine = tt; write = search rules };
     }
+
+pub returns-in-Err-clause-wanted : goal.returns-in-Err-clause-wanted
+returns-in-Err-clause-wanted g c files known other =
+    let steps = steps_of c.args.script.now in
+    let i = c.loop-step.step-index in
+    let here = step_at c.steps-step-items.result.now steps i _ c.steps-step-items.ensures.numbered c.loop-step-test.true c.step-item.is in
+    let so_far = c.loop-step.invariant.reached files known in
+    held_where files steps i _ _ _ here so_far c.wanted_by.result (subst (λ now. IfSome c.wanted_by.result (λ wanted. wanted.held ≡ len now.keys)) (c.in-Err.ensures.unchanged other) c.wanted_by.ensures)

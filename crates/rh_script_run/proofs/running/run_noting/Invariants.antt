@@ -4,7 +4,7 @@ use Rattle.rh_script.specs.Script.{steps_of}
 use Rattle.rh_shelf.specs.Shelf.{Files}
 use Rattle.rh_script_run.specs.Environment.{environment_of}
 use Rattle.rh_script_run.specs.Reached.{Reached}
-use Rattle.rh_script_run.proofs.running.run.Given as goal
+use Rattle.rh_script_run.proofs.running.run_noting.Given as goal
 
 abbrev pub invariant-loop-step : goal.invariant-loop-step
 invariant-loop-step g l = record {
