@@ -1,1 +1,3 @@
 pub mod Front
+mod Lines
+mod NoteLemmas

@@ -14,14 +14,21 @@
 //!   only where one was.
 //! - Of a script the bytes that its reader has are read, or as many of them as no script without a
 //!   faulty line can have; or memory was wanted, or a read failed (`front_of`).
+//! - A second line, for a terminal: of a script's faulty line it shows the word or the line at fault
+//!   (`note_on_script`), and of a run it has the numbers that the last command wanted, or its file,
+//!   by the cause alone (`note_on_run`). Which file that is, and why, is tested.
 //!
 //! What real streams give and take no contract says.
 #![tactic(auto)]
 
+mod line_notes;
+mod note;
+mod run_notes;
 mod script;
 mod status;
 mod streams;
 
+pub use note::{Note, note_on_check, note_on_dump, tell_note};
 pub use script::run_by;
 pub use status::{Fault, conclude, tell};
 pub use streams::{check_file, dump_streams};

@@ -13,12 +13,15 @@ ghost use Rattle.rh_shelf.specs.Shelf.{Files as OfShelf};
 ghost use Rattle.rh_set_program.specs.Scripts.{EndsScript, TellsScript, cause_told};
 ghost use Rattle.rh_set_program.specs.declared.script.TheConstants.{MAX_BYTES};
 
+use crate::line_notes::note_on_script;
+use crate::note::{Note, note_on_path};
+use crate::run_notes::note_on_run;
 use crate::status::{Fault, running};
 use rh_bytes::{Counted, fill};
 use rh_cli::{ProgramFault, Status, buffered_writer, finish, open};
 use rh_runner::Runner;
 use rh_script::{MAX_LINE_BYTES, MAX_LINES, Script, parse};
-use rh_script_run::run;
+use rh_script_run::{Wanted, run_noting};
 use rh_shelf::{CountedShelf, FileShelf, Lender};
 use std::alloc::Global;
 use std::fs::Files;
@@ -33,11 +36,12 @@ const MAX_BYTES: usize = MAX_LINES as usize * (MAX_LINE_BYTES + 1) + 1;
 const PART_BYTES: usize = 8_192;
 
 /// Carries out the script at the path by this runner, and writes its report to standard output. The
-/// report goes through a buffer.
+/// report goes through a buffer. What is known besides a fault is left in `note`.
 pub fn run_by<N: Runner>(
     rt: &(impl Files + Print + AllocGlobal + Threads + Wait + Sync),
     runner: &mut N,
     path: &str,
+    note: &mut Option<Note>,
 ) -> Result<Status, Fault>
     ensures ends { EndsScript result }
     ensures runner { KeepsRunner (N.refused_starts runner.old) (N.refused_starts runner.new)
@@ -46,19 +50,35 @@ pub fn run_by<N: Runner>(
     let alloc = rt.alloc();
     let file = match open(rt, path) {
         Ok(file) => file,
-        Err(fault) => return Err(Fault::Program(fault)),
+        Err(fault) => {
+            *note = note_on_path(rt, path);
+            return Err(Fault::Program(fault));
+        }
     };
-    let script = read_script(alloc, file)?;
+    let script = match read_script(alloc, file, note) {
+        Ok(script) => script,
+        Err(fault) => {
+            if let Fault::Read = fault {
+                *note = note_on_path(rt, path);
+            }
+            return Err(fault);
+        }
+    };
     let Ok(writer) = buffered_writer(alloc, io::writer(rt)) else {
         return Err(Fault::Program(ProgramFault::Memory));
     };
     let mut shelf = CountedShelf::new(FileShelf::new(rt));
-    let (ended, _writer) = run_out(rt, alloc, &script, &mut shelf, runner, writer);
+    let (ended, _writer, wanted) = run_out(rt, alloc, &script, &mut shelf, runner, writer);
+    if let Err(Fault::Run(fault)) = &ended {
+        let refused = shelf.get_ref().last_failure();
+        *note = note_on_run(alloc, rt, &script, fault, wanted, refused);
+    }
     ended
 }
 
 /// Carries out the script, whose report goes through this buffer, and writes out what that still
-/// holds: what the commands before a fault told is written too.
+/// holds: what the commands before a fault told is written too. Answers besides what the last
+/// command wanted, if it was refused.
 fn run_out<T: Threads + Wait + Sync, S: Lender, N: Runner, W: Write + Drop>(
     rt: &T,
     alloc: Global,
@@ -66,7 +86,7 @@ fn run_out<T: Threads + Wait + Sync, S: Lender, N: Runner, W: Write + Drop>(
     shelf: &mut S,
     runner: &mut N,
     writer: BufWriter<W>,
-) -> (Result<Status, Fault>, BufWriter<W>)
+) -> (Result<Status, Fault>, BufWriter<W>, Option<Wanted>)
     ensures ends { (files : OfShelf) → (S.state shelf.old).files ≡ Some files →
         Ends {X = OfRun} (λ f told. told ≡ Fault.Run f) Fault.Program
         (λ out r. Means files (steps_of script.now)
@@ -80,16 +100,21 @@ fn run_out<T: Threads + Wait + Sync, S: Lender, N: Runner, W: Write + Drop>(
     ensures empty { OnOk result.0 (writer_buffer result.1 ≡ []) }
 {
     let mut writer = Counted::new(writer);
-    let outcome = run(rt, alloc, script, shelf, runner, &mut writer);
-    finish(
+    let (outcome, wanted) = run_noting(rt, alloc, script, shelf, runner, &mut writer);
+    let (ended, writer) = finish(
         running(outcome),
         writer.into_inner(),
         Fault::Program(ProgramFault::Write),
-    )
+    );
+    (ended, writer, wanted)
 }
 
-/// The script that the reader has.
-fn read_script<R: Read + Drop>(alloc: Global, reader: R) -> Result<Script, Fault>
+/// The script that the reader has. What is known besides a fault of its text is left in `note`.
+fn read_script<R: Read + Drop>(
+    alloc: Global,
+    reader: R,
+    note: &mut Option<Note>,
+) -> Result<Script, Fault>
     ensures read { IfOk result (λ script. IfSome (R.remaining reader)
         (λ bytes. script_of (take MAX_BYTES bytes) ≡ Ok (steps_of script))) }
     ensures fault { IfErr result (TellsScript (R.remaining reader)) }
@@ -97,7 +122,10 @@ fn read_script<R: Read + Drop>(alloc: Global, reader: R) -> Result<Script, Fault
     let text = front_of(alloc, reader)?;
     match parse(alloc, &text) {
         Ok(script) => Ok(script),
-        Err(fault) => Err(Fault::Script(fault)),
+        Err(fault) => {
+            *note = note_on_script(alloc, &text, &fault);
+            Err(Fault::Script(fault))
+        }
     }
 }
 

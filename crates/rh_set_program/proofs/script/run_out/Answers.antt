@@ -10,14 +10,14 @@ use Rattle.rh_set_program.proofs.script.run_out.Goals as goal
 
 pub returns-clause-ends : goal.returns-clause-ends
 returns-clause-ends g c files known =
-    let left = inner_of c.run-outcome.new.writer in
+    let left = inner_of c.run_noting-outcome.new.writer in
     (ends_with g.W.Write.contents left c.into_inner.result _ _ _
     (subst (λ w. Means files (steps_of c.args.script.now)
     (environment (g.S.Lender.state c.args.shelf.now) (g.N.Runner.refused_starts c.args.runner.now) (writer_contents g.W.Write.contents w))
-    (environment (g.S.Lender.state c.run-outcome.new.shelf) (g.N.Runner.refused_starts c.run-outcome.new.runner) (writer_contents g.W.Write.contents left)) c.run-outcome.result)
-    c.new-writer.ensures.inner (c.run-outcome.ensures.meant files known))
-    c.into_inner.ensures (told_as_tells _ _ _ c.running.ensures) c.finish.ensures).ends
+    (environment (g.S.Lender.state c.run_noting-outcome.new.shelf) (g.N.Runner.refused_starts c.run_noting-outcome.new.runner) (writer_contents g.W.Write.contents left)) c.run_noting-outcome.result.0)
+    c.new-writer.ensures.inner (c.run_noting-outcome.ensures.meant files known))
+    c.into_inner.ensures (told_as_tells _ _ _ c.running.ensures) c.finish-ended.ensures).ends
 
 pub returns-clause-cases : goal.returns-clause-cases
 returns-clause-cases g c =
-    let f = c.finish.ensures in ends_by _ Program _ _ _ _ (told_as_tells _ _ _ c.running.ensures) f.fails f.ends
+    let f = c.finish-ended.ensures in ends_by _ Program _ _ _ _ (told_as_tells _ _ _ c.running.ensures) f.fails f.ends

@@ -1,0 +1,76 @@
+//! What a person is told besides a fault, on a line of its own.
+
+use crate::status::Fault;
+use rh_cli::{FileNote, ProgramFault, Status, note_on_file};
+use rh_commands::{CheckFault, DumpFault};
+use rh_key_files::KeyFault;
+use rh_layout::MAX_BITS;
+use rh_snapshot::SnapFault;
+use std::fs::Files;
+use thiserror::Error;
+
+/// The most keys for which a command makes a table: they fill three quarters of it.
+const MOST_KEYS: u64 = 3 << (MAX_BITS - 2);
+
+/// What the line of a fault does not say: the file and the reason, the numbers, or the word and the
+/// rule. It is for a terminal alone.
+#[derive(Debug, Drop, Error)]
+pub enum Note {
+    #[error(transparent)]
+    File(FileNote),
+    #[error("{held} keys held and {list} in the list, repeats counted: at most {}; \
+         see rhkeys split", MOST_KEYS)]
+    TooLarge { held: u64, list: u64 },
+    /// The same of keys whose number is not known.
+    #[error("at most {} keys, repeats counted; see rhkeys split", MOST_KEYS)]
+    TooMany,
+    /// The file that a command names as a key file.
+    #[error("{path}: rhkeys pack makes a key file of a text")]
+    Text { path: String },
+    /// The same of standard input, of which the bytes are not known any more.
+    #[error("rhkeys pack makes a key file of a text")]
+    Input,
+    #[error("{word}: a name is a small letter and up to 15 more small letters or digits")]
+    Name { word: String },
+    #[error("{word}: a line has spaces and bytes 33 to 126 alone")]
+    Byte { word: String },
+    #[error("{word}: a command is use, add, drop, ask, keep, flip, save, clear, dump, snapshot or \
+         restore")]
+    Command { word: String },
+    #[error("{line}: the form is {form}")]
+    Form { line: String, form: &'static str },
+}
+
+/// What is said of the file at the path, where it cannot be opened or read.
+pub(crate) fn note_on_path(rt: &(impl Files + AllocGlobal), path: &str) -> Option<Note> {
+    Some(Note::File(note_on_file(rt.alloc(), rt, path)?))
+}
+
+/// What is said of a check of the snapshot at the path that ended so.
+pub fn note_on_check(
+    rt: &(impl Files + AllocGlobal),
+    path: &str,
+    ended: &Result<Status, Fault>,
+) -> Option<Note> {
+    match ended {
+        Err(Fault::Program(ProgramFault::Open) | Fault::Check(CheckFault::Snap(SnapFault::Read))) =>
+            { note_on_path(rt, path) }
+        _ => None,
+    }
+}
+
+/// What is said of a dump that ended so.
+pub fn note_on_dump(ended: &Result<Status, Fault>) -> Option<Note> {
+    match ended {
+        Err(Fault::Dump(DumpFault::TooLarge)) => Some(Note::TooMany),
+        Err(Fault::Dump(DumpFault::Keys(KeyFault::NotKeys))) => Some(Note::Input),
+        _ => None,
+    }
+}
+
+/// Tells a person as far as standard error takes it.
+pub fn tell_note(rt: &impl Eprint, note: &Option<Note>) {
+    if let Some(note) = note {
+        let _ = eprintln!(rt; "rhset: {note}");
+    }
+}
