@@ -4,7 +4,7 @@ use Rattle.std.specs.Global.{Global}
 use Rattle.std.specs.Io.Buffered.{writer_contents}
 use Rattle.std.specs.Io.KnownBytes.{Keeps}
 use Rattle.std.specs.declared.io.buffered.BufWriter.{BufWriter}
-use Rattle.rh_cli.specs.Endings.{status_by, told_as, ToldAs, Ends, EndsBy, EndsWith, Finishes}
+use Rattle.rh_cli.specs.Endings.{status_by, told_as, ToldAs, EndsBy, EndsWith, Finishes}
 use Rattle.rh_cli.specs.declared.status.ProgramFault.{ProgramFault}
 use Rattle.rh_cli.specs.declared.status.ProgramFault.TheVariants as fault
 use Rattle.rh_cli.specs.declared.status.Status.{Status}

@@ -32,6 +32,7 @@ mod reason;
 mod showing;
 mod status;
 mod streams;
+mod watched;
 
 pub use closed::hold_closed;
 pub use file::open;
@@ -42,3 +43,4 @@ pub use reason::{FileNote, Reason, note_on, note_on_file, reason_of};
 pub use showing::quoted;
 pub use status::{ProgramFault, Status};
 pub use streams::{buffered_reader, buffered_writer, finish};
+pub use watched::Watched;

@@ -11,4 +11,6 @@ mod paths;
 #[cfg(test)]
 mod rows;
 #[cfg(test)]
+mod terminal;
+#[cfg(test)]
 mod written;

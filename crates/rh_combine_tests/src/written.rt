@@ -49,21 +49,35 @@ fn two_lists(alloc: Global) -> Result<Vec<KeyList>, AllocError> {
     Ok(lists)
 }
 
-// How often it was told, and the last that was told.
+// How often it was told, the last that was told, and whether that stands.
 #[derive(Drop)]
 struct Told {
     rounds: usize,
     parts: usize,
     of: usize,
+    stands: bool,
 }
 
 impl Progress for Told {
-    fn read(&mut self, _bytes: usize) {}
+    ghost stands = { λ told. told.stands };
+
+    fn read(&mut self, _bytes: usize) {
+        self.stands = true;
+    }
+
+    fn cut(&mut self) {
+        self.stands = true;
+    }
+
+    fn clear(&mut self) {
+        self.stands = false;
+    }
 
     fn done(&mut self, parts: usize, of: usize) {
         self.rounds = self.rounds.saturating_add(1);
         self.parts = parts;
         self.of = of;
+        self.stands = true;
     }
 }
 
@@ -71,6 +85,7 @@ const NONE_TOLD: Told = Told {
     rounds: 0,
     parts: 0,
     of: 0,
+    stands: false,
 };
 
 #[test]

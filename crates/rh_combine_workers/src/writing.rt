@@ -1,6 +1,6 @@
 //! What comes of lists is written, round by round.
 
-ghost use Rattle.std.specs.Prelude.{◌<◌, length, map};
+ghost use Rattle.std.specs.Prelude.{◌≡◌, ◌<◌, false, length, map};
 ghost use Rattle.std.specs.List.{flat_map};
 ghost use Rattle.rh_bytes.specs.Counting.{Emits};
 ghost use Rattle.rh_pieces.specs.Pieces.{keys_in};
@@ -30,8 +30,14 @@ fn group_size(keys: usize, parts: usize, workers: Workers) -> usize
     by_keys.min(parts.div_ceil(workers.count)).max(1)
 }
 
-/// The bytes of the groups, one group after the other.
-fn write_groups<W: Write>(groups: &[Group], writer: &mut Counted<W>) -> Result<(), WriteFault>
+/// The bytes of the groups, one group after the other. They may come to the terminal on which
+/// progress is told: nothing of that stands there any more.
+fn write_groups<W: Write, P: Progress>(
+    groups: &[Group],
+    writer: &mut Counted<W>,
+    _progress: &P,
+) -> Result<(), WriteFault>
+    requires { P.stands _progress.now ≡ false }
     ensures { Emits W.contents writer.old writer.new (flat_map (λ g. g.bytes.items) groups.now)
         result }
 {
@@ -43,13 +49,14 @@ fn write_groups<W: Write>(groups: &[Group], writer: &mut Counted<W>) -> Result<(
 
 /// One round: a group by each worker, from the first part on, written in order. It answers how many
 /// numbers that was.
-fn round<T: Threads + Sync, W: Write>(
+fn round<T: Threads + Sync, W: Write, P: Progress>(
     team: &Team<'_, T>,
     wanted: Wanted,
     cut: &CutLists,
     first: usize,
     size: usize,
     writer: &mut Counted<W>,
+    progress: &mut P,
 ) -> Result<u64, CombineFault>
     requires { first < length cut.now.borders.values.items }
     ensures { WritesParts W.contents wanted cut.now first
@@ -58,7 +65,8 @@ fn round<T: Threads + Sync, W: Write>(
 {
     let tried = groups(team, wanted, cut, first, size)?;
     let done = all_done(team.alloc, tried)?;
-    write_groups(&done, writer)?;
+    progress.clear();
+    write_groups(&done, writer, progress)?;
     Ok(count_of(&done))
 }
 
@@ -78,7 +86,7 @@ fn write_rounds<T: Threads + Sync, W: Write, P: Progress>(
     let mut first = 0;
     let mut count = 0u64;
     while first < parts {
-        let more = round(team, wanted, cut, first, size, writer)?;
+        let more = round(team, wanted, cut, first, size, writer, progress)?;
         count = count.saturating_add(more);
         first = edge(first, team.workers.count, size, parts);
         progress.done(first, parts);
@@ -92,8 +100,8 @@ fn write_rounds<T: Threads + Sync, W: Write, P: Progress>(
 /// keys or so are a good size.
 ///
 /// It takes at most some 24 bytes for each number of the lists, and a round's groups beside that.
-/// Where no thread can be started the caller does its work. Progress is told once a round. On a
-/// fault a front of the text was written.
+/// Where no thread can be started the caller does its work. Progress is told once a round, and taken
+/// away before each write. On a fault a front of the text was written.
 pub fn write_combined<T: Threads + Sync, W: Write, P: Progress>(
     team: &Team<'_, T>,
     wanted: Wanted,
@@ -104,6 +112,7 @@ pub fn write_combined<T: Threads + Sync, W: Write, P: Progress>(
     ensures { WritesCombined W.contents wanted (map keys_in lists.items) writer.old writer.new
         result }
 {
+    progress.cut();
     let cut = cut_lists(team, lists)?;
     write_rounds(team, wanted, &cut, writer, progress)
 }

@@ -8,7 +8,7 @@ use Rattle.rh_combine_workers.specs.Spelled.{spelled}
 use Rattle.rh_combine_workers.specs.declared.form.Form.TheVariants.{Count, Keys}
 use Rattle.rh_key_files.specs.KeyFile.{header, magic, spelled_keys, spelling}
 use Rattle.rh_key_files.specs.declared.version.Version.TheVariants.{Second}
-use Rattle.rh_numbers.specs.Writing.{number_line, text_of}
+use Rattle.rh_numbers.specs.Writing.{number_line}
 
 nothing_spelled : (ns : List ℕ) → spelled Count ns ≡ []
 nothing_spelled [] = refl
@@ -21,10 +21,6 @@ keys_spelled (n ∷ ns) = ap (λ l. eight_bytes n ++ l) (keys_spelled ns)
 -- what ended early wrote a front
 pub told_front : {X E : Type 0} (a b : Option (List ℕ)) (text : List ℕ) (r : Result X E) (fault : E) → r ≡ Err fault → AppendsFront a b text → Writes a b text r
 told_front a b text r fault is front = subst (Writes a b text) (sym is) front
-
--- the text of one number is its line
-pub one_line : {X E : Type 0} (a b : Option (List ℕ)) (n : ℕ) (r : Result X E) → Writes a b (text_of (n ∷ [])) r → Writes a b (number_line n) r
-one_line a b n r wrote = subst (λ text. Writes a b text r) (append-nil (number_line n)) wrote
 
 -- numbers that are counted are not written, and then comes their number
 pub counted : {X E : Type 0} (a b c : Option (List ℕ)) (ns : List ℕ) (n : ℕ) (r : Result X E) → Appends a b (spelled Count ns) → n ≡ length ns → Writes b c (number_line n) r → Writes a c (number_line (length ns)) r

@@ -1,6 +1,6 @@
 //! The commands that make one list of several.
 
-ghost use Rattle.std.specs.Prelude.{◌++◌, IfErr, length, map, string_bytes};
+ghost use Rattle.std.specs.Prelude.{◌≡◌, ◌++◌, false, IfErr, length, map, string_bytes};
 ghost use Rattle.rh_bytes.specs.Counting.{Emits};
 ghost use Rattle.rh_combine.specs.Combine.{answer};
 ghost use Rattle.rh_key_files.specs.KeyFile.{header, spelling};
@@ -34,8 +34,8 @@ pub struct Job<'a> {
 }
 
 /// Reads the lists at these paths, and writes what comes of them. Nothing is written before all are
-/// read. Each write is a large one, so that no buffer is wanted. What is written does not depend on
-/// how many workers the team has.
+/// read. Each write is a large one, so that no buffer is wanted, and before each what was told of
+/// progress is taken away. What is written does not depend on how many workers the team has.
 pub fn combine_files<T: Threads + Sync, S: Lender, I: Read, W: Write, P: Progress>(
     team: &Team<'_, T>,
     job: &Job<'_>,
@@ -114,8 +114,22 @@ fn write_counted<T: Threads + Sync, W: Write, P: Progress>(
         form: Form::Count,
     };
     let count = write_combined(team, wanted, lists, writer, progress)?;
-    write_numbers(&[count], writer)?;
+    progress.clear();
+    write_count(count, writer, progress)?;
     Ok(())
+}
+
+/// Writes the number on a line. It may come to the terminal on which progress is told: nothing of
+/// that stands there any more.
+fn write_count<W: Write, P: Progress>(
+    count: u64,
+    writer: &mut Counted<W>,
+    _progress: &P,
+) -> Result<(), WriteFault>
+    requires { P.stands _progress.now ≡ false }
+    ensures { Emits W.contents writer.old writer.new (number_line count) result }
+{
+    write_numbers(&[count], writer)
 }
 
 /// Writes a key file of the numbers. They are held until all are there, as it begins with their
@@ -139,12 +153,20 @@ fn write_packed<T: Threads + Sync, W: Write, P: Progress>(
         // Only memory can be wanting where a vector is written to.
         return Err(CombineFault::Memory);
     };
-    write_file(count, held.get_ref(), writer)?;
+    progress.clear();
+    write_file(count, held.get_ref(), writer, progress)?;
     Ok(())
 }
 
-/// Writes a key file of so many keys, which are spelled so.
-fn write_file<W: Write>(count: u64, keys: &[u8], writer: &mut Counted<W>) -> Result<(), WriteFault>
+/// Writes a key file of so many keys, which are spelled so, where nothing stands of what was told
+/// of progress.
+fn write_file<W: Write, P: Progress>(
+    count: u64,
+    keys: &[u8],
+    writer: &mut Counted<W>,
+    _progress: &P,
+) -> Result<(), WriteFault>
+    requires { P.stands _progress.now ≡ false }
     ensures { Emits W.contents writer.old writer.new (header Second count ++ keys.now) result }
 {
     write_header(count, writer)?;

@@ -2,7 +2,7 @@ use Rattle.std.proofs.Common.{Err, Ok, Result, map, rules}
 use Rattle.std.proofs.lemmas.Result.{err_from_is_err_and}
 use Rattle.rh_combine.specs.Combine.{answer}
 use Rattle.rh_pieces.specs.Pieces.{keys_in}
-use Rattle.rh_list_commands.proofs.Written.{counted, not_counted, one_line, told_front}
+use Rattle.rh_list_commands.proofs.Written.{counted, not_counted, told_front}
 use Rattle.rh_list_commands.proofs.combining.write_counted.Goals as goal
 
 pub returns-in_err-count : goal.returns-in_err-count
@@ -13,12 +13,12 @@ returns-in_err-count g c =
       counts = search rules;
     }
 
-pub returns-in_err-write_numbers : goal.returns-in_err-write_numbers
-returns-in_err-write_numbers g c =
-    let p = err_from_is_err_and c.from_residual-in_err-write_numbers.result c.from_residual-in_err-write_numbers.ensures.1 in
+pub returns-in_err-write_count : goal.returns-in_err-write_count
+returns-in_err-write_count g c =
+    let p = err_from_is_err_and c.from_residual-in_err-write_count.result c.from_residual-in_err-write_count.ensures.1 in
     let told : Result (Unit {0}) (Unit {0}) = Err tt in
     record {
-      written = told_front _ _ _ c.from_residual-in_err-write_numbers.result p.0 p.1 (counted _ _ _ _ c.in_ok-count.count told c.in_ok-count.ensures.written.text c.in_ok-count.ensures.written.count (one_line _ _ _ told c.in_err-write_numbers.ensures.front));
+      written = told_front _ _ _ c.from_residual-in_err-write_count.result p.0 p.1 (counted _ _ _ _ c.in_ok-count.count told c.in_ok-count.ensures.written.text c.in_ok-count.ensures.written.count c.in_err-write_count.ensures.front);
       counts = search rules;
     }
 
@@ -26,6 +26,6 @@ pub returns : goal.returns
 returns g c =
     let told : Result (Unit {0}) (Unit {0}) = Ok tt in
     record {
-      written = counted _ _ _ _ c.in_ok-count.count told c.in_ok-count.ensures.written.text c.in_ok-count.ensures.written.count (one_line _ _ _ told c.in_ok-write_numbers.ensures.appended);
+      written = counted _ _ _ _ c.in_ok-count.count told c.in_ok-count.ensures.written.text c.in_ok-count.ensures.written.count c.in_ok-write_count.ensures.appended;
       counts = search rules;
     }
