@@ -24,7 +24,7 @@ fn is_mistake(alloc: Global, words: &[&str]) -> Result<bool, Fail> {
 fn listing_of(alloc: Global, words: &[&str]) -> Result<Option<(bool, bool)>, Fail> {
     Ok(match line_of(alloc, words)? {
         Ok(line) => match line {
-            Line::Pack => Some((false, false)),
+            Line::Pack { .. } => Some((false, false)),
             Line::List { snapshot, .. } => Some((true, snapshot)),
             Line::Combine { .. } | Line::Split { .. } => None,
         },
@@ -32,15 +32,12 @@ fn listing_of(alloc: Global, words: &[&str]) -> Result<Option<(bool, bool)>, Fai
     })
 }
 
-// The files that are to be listed, of words that are `list`.
+// The files that are named, of words that are `list`, `pack` or `split`.
 fn files_of(alloc: Global, words: &[&str]) -> Result<Option<Vec<String>>, Fail> {
     Ok(match line_of(alloc, words)? {
         Ok(line) => match line {
-            Line::List {
-                files,
-                snapshot: _snapshot,
-            } => Some(files),
-            Line::Combine { .. } | Line::Pack | Line::Split { .. } => None,
+            Line::List { files, .. } | Line::Pack { files } | Line::Split { files, .. } => Some(files),
+            Line::Combine { .. } => None,
         },
         Err(_fault) => None,
     })
@@ -55,8 +52,9 @@ fn split_of(alloc: Global, words: &[&str]) -> Result<Option<(usize, bool, bool, 
                 key_file,
                 plan,
                 name,
+                files: _files,
             } => Some((parts, key_file, plan, name)),
-            Line::Combine { .. } | Line::Pack | Line::List { .. } => None,
+            Line::Combine { .. } | Line::Pack { .. } | Line::List { .. } => None,
         },
         Err(_fault) => None,
     })
@@ -83,10 +81,16 @@ const FILES: &[(&[&str], &[&str])] = &[
     (&["list", "a.keys"], &["a.keys"]),
     (&["list", "b", "--snapshot", "a", "b"], &["b", "a", "b"]),
     (&["list", "--", "--snapshot", ""], &["--snapshot", ""]),
+    (&["pack"], &[]),
+    (&["pack", "ids.txt"], &["ids.txt"]),
+    (&["pack", "-"], &["-"]),
+    (&["split", "spring"], &[]),
+    (&["split", "--parts", "2", "spring", "ids.txt"], &["ids.txt"]),
+    (&["split", "spring", "-", "--plan"], &["-"]),
 ];
 
 #[test]
-fn files_are_listed_in_their_order(rt: HostRuntime) -> Result<(), Fail> {
+fn files_are_given_in_their_order(rt: HostRuntime) -> Result<(), Fail> {
     for &(words, expected) in FILES {
         let Some(files) = files_of(rt.alloc(), words)? else {
             return Err("refused".into());
@@ -140,7 +144,7 @@ fn words_are_splits(rt: HostRuntime) -> Result<(), Fail> {
 const MISTAKES: &[&[&str]] = &[
     &[],
     &["unpack"],
-    &["pack", "extra"],
+    &["pack", "a", "b"],
     &["pack", "--snapshot"],
     &["list", "--keys"],
     &["list", "--snapshot=true"],
@@ -152,7 +156,7 @@ const MISTAKES: &[&[&str]] = &[
     &["split", "--parts", "-1", "a"],
     &["split", "--parts", "1001", "a"],
     &["split", "--parts", "two", "a"],
-    &["split", "--parts", "2", "a", "b"],
+    &["split", "--parts", "2", "a", "b", "c"],
     &["split", "--parts", "2", "--parts", "3", "a"],
     &["split", "--parts", "2", "--snapshot", "a"],
 ];

@@ -1,4 +1,4 @@
-ghost use Rattle.std.specs.Prelude.{◌<◌, ◌≤◌};
+ghost use Rattle.std.specs.Prelude.{◌<◌, ◌≤◌, false};
 
 use crate::files::THREE_KEYS;
 use crate::numbers::{ACCEPTED, NOT_A_KEY, OUT_OF_RANGE, sevens};
@@ -126,11 +126,17 @@ struct Told {
 }
 
 impl Progress for Told {
+    ghost stands = { λ _. false };
+
     fn read(&mut self, bytes: usize) {
         self.bytes = self.bytes.wrapping_add(bytes as u64);
     }
 
+    fn cut(&mut self) {}
+
     fn done(&mut self, _parts: usize, _of: usize) {}
+
+    fn clear(&mut self) {}
 }
 
 // More keys than the other commands take.

@@ -24,10 +24,10 @@ pub split_arguments : (words : List Text) → Passes split_built words → HasSp
 split_arguments words passes =
     let rows = rows_after split_built.rules [] words in
     let parts = value_of parts_built rows
-    (rows_fit parts_built split_built words (refl, refl) (λ same. refl, (λ same. absurd cc, (λ same. absurd cc, (λ same. absurd cc, (λ same. absurd cc, tt))))) refl passes)
+    (rows_fit parts_built split_built words (refl, refl) (λ same. refl, (λ same. absurd cc, (λ same. absurd cc, (λ same. absurd cc, (λ same. absurd cc, (λ same. absurd cc, tt)))))) refl passes)
     (default_row parts_built split_built words (codes "0") [] (inl refl) refl) in
     let name = value_of name_built rows
-    (rows_fit name_built split_built words (refl, refl) (λ same. absurd cc, (λ same. absurd cc, (λ same. absurd cc, (λ same. refl, (λ same. absurd cc, tt))))) tt passes)
+    (rows_fit name_built split_built words (refl, refl) (λ same. absurd cc, (λ same. absurd cc, (λ same. absurd cc, (λ same. refl, (λ same. absurd cc, (λ same. absurd cc, tt)))))) tt passes)
     (required_row name_built split_built words (inr (inr (inr (inl refl)))) refl passes) in (
       (parts.0, parts.2, accepts-Accepts false (Unsigned 0 MAX_PARTS) parts.0 parts.3),
       ap is_some name.1,

@@ -12,9 +12,13 @@ use Rattle.rh_key_commands.specs.Flags.{IsGiven, flag_rule}
 use Rattle.rh_key_commands.specs.Lists.{HasWorkers, lists_app, name_of}
 use Rattle.rh_arguments.specs.Words.{IsTextFor, GivesAll, GivesNumber, HasNumber, HasText, path_rule, program_app}
 
--- the command `pack` takes no argument
+-- one file at the most
+abbrev pub file_rule : Rule
+file_rule = record (new_rule (codes "file")) { action = Some Set; value_names = 1 }
+
+-- the command `pack` takes a file
 abbrev pub pack_app : App
-pack_app = new_app (codes "pack")
+pack_app = with_rule (new_app (codes "pack")) file_rule
 
 -- any number of files
 abbrev pub files_rule : Rule
@@ -34,9 +38,12 @@ parts_rule = record (new_rule (codes "parts")) {
   parser = Some (Unsigned 0 MAX_PARTS);
 }
 
--- the command `split` takes a number of parts, these flags, and a name
+-- the command `split` takes a number of parts, these flags, a name, and a file
+abbrev pub named_split : App
+named_split = with_rule (with_rule (with_rule (with_rule (new_app (codes "split")) parts_rule) (flag_rule (codes "key-file"))) (flag_rule (codes "plan"))) (path_rule (codes "name"))
+
 abbrev pub split_app : App
-split_app = with_rule (with_rule (with_rule (with_rule (new_app (codes "split")) parts_rule) (flag_rule (codes "key-file"))) (flag_rule (codes "plan"))) (path_rule (codes "name"))
+split_app = with_rule named_split file_rule
 
 -- the program with the commands that make one list of several
 abbrev pub lists_added : App
@@ -61,12 +68,12 @@ abbrev pub SaysKeys : Text → List Row → Line → Type 0
 SaysKeys name rows (Combine how workers count packed files) =
     (name ≡ name_of how) × GivesNumber (codes "workers") 0 MAX_WORKERS rows workers × (IsTrue count ↔ IsGiven (codes "count") rows)
     × (IsTrue packed ↔ IsGiven (codes "packed") rows) × GivesAll (codes "file") rows files.items
-SaysKeys name rows Pack = name ≡ codes "pack"
+SaysKeys name rows (Pack files) = (name ≡ codes "pack") × GivesAll (codes "file") rows files.items
 SaysKeys name rows (Listing snapshot files) =
     (name ≡ codes "list") × (IsTrue snapshot ↔ IsGiven (codes "snapshot") rows) × GivesAll (codes "file") rows files.items
-SaysKeys name rows (Split parts key_file plan text) =
+SaysKeys name rows (Split parts key_file plan text files) =
     (name ≡ codes "split") × GivesNumber (codes "parts") 0 MAX_PARTS rows parts × (IsTrue key_file ↔ IsGiven (codes "key-file") rows)
-    × (IsTrue plan ↔ IsGiven (codes "plan") rows) × IsTextFor (codes "name") rows text
+    × (IsTrue plan ↔ IsGiven (codes "plan") rows) × IsTextFor (codes "name") rows text × GivesAll (codes "file") rows files.items
 
 -- a command was found, and the line is that
 abbrev pub AsksKeys : Option (Text × List Row) → Line → Type 0

@@ -1,49 +1,84 @@
 //! The command `split`, between real files and streams.
 
-ghost use Rattle.std.specs.Prelude.{◌≡◌, ◌≤◌, ◌<◌, ⊤, IfErr, IfOk, IfSome, Ok};
+ghost use Rattle.std.specs.Prelude.{◌≡◌, ◌≤◌, ◌<◌, ⊤, IfErr, IfOk, IfSome};
 ghost use Rattle.std.specs.Prelude.{length, true};
 ghost use Rattle.std.specs.Io.Buffered.{writer_contents};
 ghost use Rattle.rh_bytes.specs.Counting.{Writes};
-ghost use Rattle.rh_cli.specs.Endings.{EndsBy, EndsWith, told_as};
+ghost use Rattle.rh_cli.specs.Endings.{EndsWith, told_as};
 ghost use Rattle.rh_parts.specs.declared.part.TheConstants.{MAX_PARTS};
 ghost use Rattle.rh_splitting.specs.Name.{is_name};
 ghost use Rattle.rh_splitting.specs.Plan.{plan_text};
-ghost use Rattle.rh_keys_program.specs.Told.{TellsNoSize, TellsPlan, TellsSplit};
-ghost use Rattle.rh_keys_program.specs.Told.{fault_of_split, parts_of};
+ghost use Rattle.rh_keys_program.specs.Told.{EndsPlan, EndsSplit, EndsSplitting, TellsNoSize};
+ghost use Rattle.rh_keys_program.specs.Told.{EndsPlanning, TellsPlan, TellsSplit, fault_of_full};
+ghost use Rattle.rh_keys_program.specs.Told.{parts_of, path_of};
 
-use crate::lists::size_of;
-use crate::status::Fault;
-use rh_bytes::{Counted, WriteFault};
-use rh_cli::{Outlet, ProgramFault, Status, buffered_writer, finish};
+use crate::fault::{Fault, InputFault, Place};
+use crate::inputs::told_of_input;
+use rh_bytes::{Counted, Progress, WriteFault};
+use rh_cli::{Outlet, ProgramFault, Status, Watched, buffered_writer, finish};
+use rh_shelf::{FileShelf, Shelf};
 use rh_splitting::{
     FilesFault, Part, PartFiles, Source, SplitFault, counting_parts, parts_chosen, split_source,
     try_source, write_plan,
 };
 use std::fs::Files;
-use std::io::{BufWriter, Write};
+use std::io::{BufWriter, Read, Write};
 
-/// How many parts are to be made: as many as were asked for, or where that is 0 as the size of
-/// standard input says. Of a pipe the size is not known, and it is read but once: the parts of its
-/// first key have to be known before its last one.
-pub fn parts_asked(rt: &(impl Files + Input), source: Source, asked: u64) -> Result<u64, Fault>
-    requires { asked ≤ MAX_PARTS }
-    ensures some { IfOk result (λ parts. 0 < parts) }
-    ensures few { IfOk result (λ parts. parts ≤ MAX_PARTS) }
-    ensures asked { 0 < asked → result ≡ Ok asked }
-    ensures fault { IfErr result (λ told. (asked ≡ 0) × TellsNoSize source told) }
+/// Splits what stands there into key files below the current folder: into as many parts as are
+/// asked for, or where that is 0 as its size asks for.
+pub fn split_streams(
+    rt: &(impl Files + Input + AllocGlobal),
+    source: Source,
+    asked: u64,
+    name: &str,
+    place: Place,
+    progress: &mut impl Progress,
+) -> Result<Status, Fault>
+    requires few { asked ≤ MAX_PARTS }
+    requires name { is_name name.now ≡ true }
+    ensures { EndsSplitting source asked (path_of place) result }
 {
-    let size = size_of(rt, "/dev/stdin");
-    if let Some(parts) = parts_of(source, asked, size) {
-        return Ok(parts);
-    }
-    // (what cannot be read has no size either)
-    match try_source(&mut Counted::new(rt.reader()), source) {
-        Ok(()) => Err(Fault::Size),
-        Err(fault) => Err(Fault::Split(FilesFault::Split(fault))),
+    let Some(path) = place.file() else {
+        let reader = Watched::new(rt.reader(), progress);
+        return split_from(rt, reader, source, asked, name, place);
+    };
+    match FileShelf::new(rt).fetch(rt.alloc(), path) {
+        Ok(file) => {
+            let reader = Watched::new(file, progress);
+            split_from(rt, reader, source, asked, name, place)
+        }
+        Err(fault) => Err(told_of_input(rt, place, InputFault::Open(fault))),
     }
 }
 
-/// As many parts as were asked for, or where that is 0 as an input of this size asks for.
+/// The same of what this reader has. It is read in parts, with no other buffer.
+fn split_from<R: Read + Drop>(
+    rt: &(impl Files + AllocGlobal),
+    reader: R,
+    source: Source,
+    asked: u64,
+    name: &str,
+    place: Place,
+) -> Result<Status, Fault>
+    requires few { asked ≤ MAX_PARTS }
+    requires name { is_name name.now ≡ true }
+    ensures { EndsSplit source asked (path_of place) result }
+{
+    let mut reader = Counted::new(reader);
+    let size = place.size(rt);
+    let Some(parts) = parts_of(source, asked, size) else {
+        return Err(no_size(rt, &mut reader, source, place));
+    };
+    let mut files = PartFiles::new(rt.alloc(), rt);
+    match files.split(rt.alloc(), &mut reader, source, parts, name) {
+        Ok(()) => Ok(Status::Done),
+        Err(fault) => Err(told_of_split(rt, source, parts, size, place, fault)),
+    }
+}
+
+/// As many parts as were asked for, or where that is 0 as an input of this size asks for. Of a pipe
+/// the size is not known, and it is read but once: the parts of its first key have to be known
+/// before its last one.
 fn parts_of(source: Source, asked: u64, size: Option<u64>) -> Option<u64>
     requires { asked ≤ MAX_PARTS }
     ensures parts { result ≡ parts_of source asked size }
@@ -59,66 +94,110 @@ fn parts_of(source: Source, asked: u64, size: Option<u64>) -> Option<u64>
     }
 }
 
-/// Splits what stands on standard input into key files below the current folder. It is read in
-/// parts, with no other buffer.
-pub fn split_streams(
-    rt: &(impl Files + Input + AllocGlobal),
+/// What is told where the size is not known. (What cannot be read has no size either.)
+fn no_size<R: Read>(
+    files: &impl Files,
+    reader: &mut Counted<R>,
+    source: Source,
+    place: Place,
+) -> Fault
+    ensures { TellsNoSize source (path_of place) result }
+{
+    match try_source(reader, source) {
+        Ok(()) => Fault::Size,
+        Err(fault) => told_of_split(files, source, 0, None, place, FilesFault::Split(fault)),
+    }
+}
+
+/// What is told of a split into so many parts, of an input of this size.
+fn told_of_split(
+    files: &impl Files,
     source: Source,
     parts: u64,
-    name: &str,
-) -> Result<Status, Fault>
-    requires some { 0 < parts }
-    requires few { parts ≤ MAX_PARTS }
-    requires name { is_name name.now ≡ true }
-    ensures done { IfOk result (λ status. status ≡ Status.Done) }
-    ensures fault { IfErr result (TellsSplit source parts) }
+    size: Option<u64>,
+    place: Place,
+    fault: FilesFault,
+) -> Fault
+    ensures { TellsSplit source parts size (path_of place) fault result }
 {
-    let mut reader = Counted::new(rt.reader());
-    let mut files = PartFiles::new(rt.alloc(), rt);
-    match files.split(rt.alloc(), &mut reader, source, parts, name) {
-        Ok(()) => Ok(Status::Done),
-        Err(fault) => {
-            let size = size_of(rt, "/dev/stdin");
-            Err(fault_of_split(source, parts, size, fault))
+    match fault {
+        FilesFault::Split(SplitFault::Text(fault)) => {
+            told_of_input(files, place, InputFault::Text(fault))
         }
+        FilesFault::Split(SplitFault::Keys(fault)) => {
+            told_of_input(files, place, InputFault::Keys(fault))
+        }
+        FilesFault::Split(SplitFault::TooMany { part }) => fault_of_full(source, part, parts, size),
+        FilesFault::Memory => Fault::Program(ProgramFault::Memory),
+        FilesFault::Split(SplitFault::Write { .. })
+        | FilesFault::Create { .. }
+        | FilesFault::Left { .. }
+        | FilesFault::Write { .. } => Fault::Part(fault),
     }
 }
 
-/// What is told of a split into so many parts, of an input of this size. Where a part is too full
-/// and the size asks for more parts, it says how many: only the repeats of a key all go to one
-/// part.
-fn fault_of_split(source: Source, parts: u64, size: Option<u64>, fault: FilesFault) -> Fault
-    ensures { result ≡ fault_of_split source parts size fault }
+/// What is told of a part that is too full. Where the size asks for more parts, it says how many:
+/// only the repeats of a key all go to one part.
+fn fault_of_full(source: Source, part: u64, parts: u64, size: Option<u64>) -> Fault
+    ensures { result ≡ fault_of_full source part parts size }
 {
-    match (fault, size) {
-        (FilesFault::Split(SplitFault::TooMany { part }), Some(bytes))
-            if parts_chosen(source, bytes) > parts => {
-            Fault::TooFull {
-                part,
-                parts: parts_chosen(source, bytes),
-            }
-        }
-        (fault, _) => Fault::Split(fault),
+    match size {
+        Some(bytes) if parts_chosen(source, bytes) > parts => Fault::TooFull {
+            part,
+            parts: parts_chosen(source, bytes),
+        },
+        _ => Fault::Part(FilesFault::Split(SplitFault::TooMany { part })),
     }
 }
 
-/// Writes to standard output how many keys of standard input each part would have, and no file.
+/// Writes to standard output how many keys of what stands there each part would have, and no file.
 pub fn plan_streams<W: Write>(
-    rt: &(impl Input + AllocGlobal),
+    rt: &(impl Files + Input + AllocGlobal),
     outlet: &mut Outlet<W>,
     source: Source,
-    count: u64,
+    asked: u64,
+    place: Place,
+    progress: &mut impl Progress,
 ) -> Result<Status, Fault>
-    requires some { 0 < count }
-    requires few { count ≤ MAX_PARTS }
-    ensures { EndsBy (λ f told. told ≡ Fault.Split (FilesFault.Split f)) Fault.Program result }
+    requires few { asked ≤ MAX_PARTS }
+    ensures { EndsPlanning source asked (path_of place) result }
 {
+    let Some(path) = place.file() else {
+        let reader = Watched::new(rt.reader(), progress);
+        return plan_from(rt, reader, outlet, source, asked, place);
+    };
+    match FileShelf::new(rt).fetch(rt.alloc(), path) {
+        Ok(file) => {
+            let reader = Watched::new(file, progress);
+            plan_from(rt, reader, outlet, source, asked, place)
+        }
+        Err(fault) => Err(told_of_input(rt, place, InputFault::Open(fault))),
+    }
+}
+
+/// The same of what this reader has.
+fn plan_from<R: Read + Drop, W: Write>(
+    rt: &(impl Files + AllocGlobal),
+    reader: R,
+    outlet: &mut Outlet<W>,
+    source: Source,
+    asked: u64,
+    place: Place,
+) -> Result<Status, Fault>
+    requires few { asked ≤ MAX_PARTS }
+    ensures { EndsPlan source asked (path_of place) result }
+{
+    let mut reader = Counted::new(reader);
+    let size = place.size(rt);
+    let Some(count) = parts_of(source, asked, size) else {
+        return Err(no_size(rt, &mut reader, source, place));
+    };
     let Ok(mut parts) = counting_parts(rt.alloc(), count) else {
         return Err(Fault::Program(ProgramFault::Memory));
     };
-    let mut reader = Counted::new(rt.reader());
     if let Err(fault) = split_source(rt.alloc(), &mut reader, source, &mut parts) {
-        return Err(Fault::Split(FilesFault::Split(fault)));
+        let fault = FilesFault::Split(fault);
+        return Err(told_of_split(rt, source, count, size, place, fault));
     }
     let Ok(writer) = buffered_writer(rt.alloc(), outlet) else {
         return Err(Fault::Program(ProgramFault::Memory));

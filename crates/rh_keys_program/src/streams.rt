@@ -7,75 +7,110 @@ ghost use Rattle.rh_cli.specs.Endings.{EndsBy, EndsWith, ToldAs};
 ghost use Rattle.rh_key_texts.specs.Files.{ListsFiles};
 ghost use Rattle.rh_key_texts.specs.List.{Lists, ListsHeld};
 ghost use Rattle.rh_key_texts.specs.Pack.{Packs};
-ghost use Rattle.rh_keys_program.specs.Endings.{ending_by, ending_by_file};
-ghost use Rattle.rh_keys_program.specs.Told.{TellsFileAt};
+ghost use Rattle.rh_keys_program.specs.Told.{EndsReading, TellsFile, TellsFileAt, TellsHeld};
+ghost use Rattle.rh_keys_program.specs.Told.{TellsKeys, TellsPack, path_of};
 
-use crate::status::{Fault, listing, listing_held, packing};
-use rh_bytes::Counted;
-use rh_cli::{Outlet, ProgramFault, Status, buffered_reader, buffered_writer, finish};
-use rh_key_files::KeyFault;
-use rh_key_texts::{FaultAt, FileFault, Form, list_files, list_keys, list_snapshot, pack};
-use rh_shelf::{CountedShelf, FileShelf, Lender, ShelfFault};
-use rh_snapshot::SnapFault;
+use crate::fault::{Fault, InputFault, Place};
+use crate::inputs::told_of_input;
+use rh_bytes::{Counted, Progress};
+use rh_cli::{Outlet, ProgramFault, Status, Watched, buffered_reader, buffered_writer, finish};
+use rh_key_texts::{
+    FaultAt, FileFault, Form, HeldFault, ListFault, PackFault, list_files, list_keys,
+    list_snapshot, pack,
+};
+use rh_shelf::{CountedShelf, FileShelf, Lender, Shelf};
 use std::alloc::Global;
 use std::fs::Files;
 use std::io::{BufWriter, Read, Write};
 
-/// Packs the text on standard input to standard output. It is read in parts, with no other buffer.
+/// Packs the text that stands there to standard output.
 pub fn pack_streams<W: Write>(
-    rt: &(impl Input + AllocGlobal),
+    rt: &(impl Files + Input + AllocGlobal),
     outlet: &mut Outlet<W>,
+    place: Place,
+    progress: &mut impl Progress,
 ) -> Result<Status, Fault>
-    ensures { EndsBy (λ f told. told ≡ Fault.Pack f) Fault.Program result }
+    ensures { EndsReading (TellsPack (path_of place)) (path_of place) result }
+{
+    let Some(path) = place.file() else {
+        return pack_from(rt, Watched::new(rt.reader(), progress), outlet, place);
+    };
+    match FileShelf::new(rt).fetch(rt.alloc(), path) {
+        Ok(reader) => pack_from(rt, Watched::new(reader, progress), outlet, place),
+        Err(fault) => Err(told_of_input(rt, place, InputFault::Open(fault))),
+    }
+}
+
+/// Packs the text that the reader has, which stands there. It is read in parts, with no other
+/// buffer.
+fn pack_from<R: Read + Drop, W: Write>(
+    rt: &(impl Files + AllocGlobal),
+    reader: R,
+    outlet: &mut Outlet<W>,
+    place: Place,
+) -> Result<Status, Fault>
+    ensures { EndsBy (TellsPack (path_of place)) Fault.Program result }
 {
     let Ok(writer) = buffered_writer(rt.alloc(), outlet) else {
         return Err(Fault::Program(ProgramFault::Memory));
     };
-    let (ended, _writer) = pack_out(rt.alloc(), &mut Counted::new(rt.reader()), writer);
+    let (ended, _writer) = pack_out(rt, place, &mut Counted::new(reader), writer);
     ended
 }
 
 /// Packs the text that the reader has, through this buffer, and writes out what that still holds.
 fn pack_out<R: Read, W: Write + Drop>(
-    alloc: Global,
+    rt: &(impl Files + AllocGlobal),
+    place: Place,
     reader: &mut Counted<R>,
     writer: BufWriter<W>,
 ) -> (Result<Status, Fault>, BufWriter<W>)
-    ensures { EndsWith {X = ⊤} W.contents (λ f told. told ≡ Fault.Pack f) Fault.Program
+    ensures { EndsWith {X = ⊤} W.contents (TellsPack (path_of place)) Fault.Program
         (λ out r. Packs (R.remaining (inner_of reader.old)) (R.remaining (inner_of reader.new))
         (writer_contents W.contents writer) out r)
         result }
 {
     let mut writer = Counted::new(writer);
-    let packed = pack(alloc, reader, &mut writer);
+    let packed = pack(rt.alloc(), reader, &mut writer);
     finish(
-        packing(packed),
+        packing(rt, place, packed),
         writer.into_inner(),
         Fault::Program(ProgramFault::Write),
     )
 }
 
+/// What came of a packing, told as by the program.
+fn packing(files: &impl Files, place: Place, outcome: Result<(), PackFault>) -> Result<(), Fault>
+    ensures { ToldAs (TellsPack (path_of place)) outcome result }
+{
+    match outcome {
+        Ok(()) => Ok(()),
+        Err(PackFault::Text(fault)) => Err(told_of_input(files, place, InputFault::Text(fault))),
+        Err(PackFault::Write) => Err(Fault::Program(ProgramFault::Write)),
+    }
+}
+
 /// Lists what stands on standard input to standard output.
 pub fn list_input<W: Write>(
-    rt: &(impl Input + AllocGlobal),
+    rt: &(impl Files + Input + AllocGlobal),
     outlet: &mut Outlet<W>,
     form: Form,
+    progress: &mut impl Progress,
 ) -> Result<Status, Fault>
-    ensures keys { form ≡ Form.Keys → EndsBy (λ f told. told ≡ Fault.List f) Fault.Program result }
-    ensures held { form ≡ Form.Snapshot →
-        EndsBy (λ f told. told ≡ Fault.Held f) Fault.Program result }
+    ensures keys { form ≡ Form.Keys → EndsBy TellsKeys Fault.Program result }
+    ensures held { form ≡ Form.Snapshot → EndsBy TellsHeld Fault.Program result }
 {
     let alloc = rt.alloc();
     let (Ok(reader), Ok(writer)) = (
-        buffered_reader(alloc, rt.reader()),
+        buffered_reader(alloc, Watched::new(rt.reader(), progress)),
         buffered_writer(alloc, outlet),
     ) else {
         return Err(Fault::Program(ProgramFault::Memory));
     };
     let mut reader = Counted::new(reader);
     let (ended, _writer) = match form {
-        Form::Keys => list_out(alloc, &mut reader, writer),
-        Form::Snapshot => list_held_out(alloc, &mut reader, writer),
+        Form::Keys => list_out(rt, &mut reader, writer),
+        Form::Snapshot => list_held_out(rt, &mut reader, writer),
     };
     ended
 }
@@ -83,42 +118,72 @@ pub fn list_input<W: Write>(
 /// Lists the key file that the reader has, through this buffer, and writes out what that still
 /// holds.
 fn list_out<R: Read, W: Write + Drop>(
-    alloc: Global,
+    rt: &(impl Files + AllocGlobal),
     reader: &mut Counted<R>,
     writer: BufWriter<W>,
 ) -> (Result<Status, Fault>, BufWriter<W>)
-    ensures { EndsWith {X = ⊤} W.contents (λ f told. told ≡ Fault.List f) Fault.Program
+    ensures { EndsWith {X = ⊤} W.contents TellsKeys Fault.Program
         (λ out r. Lists (R.remaining (inner_of reader.old)) (R.remaining (inner_of reader.new))
         (writer_contents W.contents writer) out r)
         result }
 {
     let mut writer = Counted::new(writer);
-    let listed = list_keys(alloc, reader, &mut writer);
+    let listed = list_keys(rt.alloc(), reader, &mut writer);
     finish(
-        listing(listed),
+        listing(rt, listed),
         writer.into_inner(),
         Fault::Program(ProgramFault::Write),
     )
 }
 
+/// What came of the listing of a key file on standard input, told as by the program.
+fn listing(files: &impl Files, outcome: Result<(), ListFault>) -> Result<(), Fault>
+    ensures { ToldAs TellsKeys outcome result }
+{
+    match outcome {
+        Ok(()) => Ok(()),
+        Err(ListFault::Keys(fault)) => Err(told_of_input(
+            files,
+            Place::Input,
+            InputFault::Keys(fault),
+        )),
+        Err(ListFault::Write) => Err(Fault::Program(ProgramFault::Write)),
+    }
+}
+
 /// The same of a snapshot.
 fn list_held_out<R: Read, W: Write + Drop>(
-    alloc: Global,
+    rt: &(impl Files + AllocGlobal),
     reader: &mut Counted<R>,
     writer: BufWriter<W>,
 ) -> (Result<Status, Fault>, BufWriter<W>)
-    ensures { EndsWith {X = ⊤} W.contents (λ f told. told ≡ Fault.Held f) Fault.Program
+    ensures { EndsWith {X = ⊤} W.contents TellsHeld Fault.Program
         (λ out r. ListsHeld (R.remaining (inner_of reader.old)) (R.remaining (inner_of reader.new))
         (writer_contents W.contents writer) out r)
         result }
 {
     let mut writer = Counted::new(writer);
-    let listed = list_snapshot(alloc, reader, &mut writer);
+    let listed = list_snapshot(rt.alloc(), reader, &mut writer);
     finish(
-        listing_held(listed),
+        listing_held(rt, listed),
         writer.into_inner(),
         Fault::Program(ProgramFault::Write),
     )
+}
+
+/// What came of the listing of a snapshot on standard input, told as by the program.
+fn listing_held(files: &impl Files, outcome: Result<(), HeldFault>) -> Result<(), Fault>
+    ensures { ToldAs TellsHeld outcome result }
+{
+    match outcome {
+        Ok(()) => Ok(()),
+        Err(HeldFault::Snap(fault)) => Err(told_of_input(
+            files,
+            Place::Input,
+            InputFault::Snap(fault),
+        )),
+        Err(HeldFault::Write) => Err(Fault::Program(ProgramFault::Write)),
+    }
 }
 
 /// Lists the files at these paths to standard output, one after the other. It goes through a
@@ -135,14 +200,14 @@ pub fn list_paths<W: Write>(
         return Err(Fault::Program(ProgramFault::Memory));
     };
     let mut shelf = CountedShelf::new(FileShelf::new(rt));
-    let (ended, _writer) = list_files_out(rt.alloc(), &mut shelf, paths, form, writer);
+    let (ended, _writer) = list_files_out(rt, &mut shelf, paths, form, writer);
     ended
 }
 
 /// Lists the files at these paths, through this buffer, and writes out what that still holds: what
 /// was listed of the files before one that is refused is written all the same.
 fn list_files_out<S: Lender, W: Write + Drop>(
-    alloc: Global,
+    rt: &(impl Files + AllocGlobal),
     shelf: &mut S,
     paths: Vec<String>,
     form: Form,
@@ -154,40 +219,41 @@ fn list_files_out<S: Lender, W: Write + Drop>(
         result }
 {
     let mut writer = Counted::new(writer);
-    let listed = list_files(alloc, shelf, &paths, form, &mut writer);
+    let listed = list_files(rt.alloc(), shelf, &paths, form, &mut writer);
     finish(
-        listing_files(paths, listed),
+        listing_files(rt, paths, listed),
         writer.into_inner(),
         Fault::Program(ProgramFault::Write),
     )
 }
 
 /// What came of the listing of the files at these paths, told as by the program.
-fn listing_files(paths: Vec<String>, outcome: Result<(), FaultAt>) -> Result<(), Fault>
+fn listing_files(
+    files: &impl Files,
+    mut paths: Vec<String>,
+    outcome: Result<(), FaultAt>,
+) -> Result<(), Fault>
     requires { IfErr outcome (λ f. f.index < length paths.items) }
     ensures { ToldAs (TellsFileAt (map string_bytes paths.items)) outcome result }
 {
     match outcome {
         Ok(()) => Ok(()),
-        Err(fault) => Err(file_fault(paths, &fault)),
+        Err(FaultAt { index, fault }) => {
+            let place = Place::File(paths.swap_remove(index));
+            Err(told_of_file(files, place, fault))
+        }
     }
 }
 
-/// The fault, with the path of its file. Want of memory and a failed write are no faults of the
-/// file.
-fn file_fault(mut paths: Vec<String>, fault: &FaultAt) -> Fault
-    requires { fault.now.index < length paths.items }
-    ensures ending { ending_by result ≡ ending_by_file fault.now.fault }
-    ensures tells { TellsFileAt (map string_bytes paths.items) fault.now result }
+/// What is told of a file that was listed.
+fn told_of_file(files: &impl Files, place: Place, fault: FileFault) -> Fault
+    ensures { TellsFile (path_of place) fault result }
 {
-    match fault.fault {
-        FileFault::Write => Fault::Program(ProgramFault::Write),
-        FileFault::Shelf(ShelfFault::Memory)
-        | FileFault::Keys(KeyFault::Memory)
-        | FileFault::Snap(SnapFault::Memory) => Fault::Program(ProgramFault::Memory),
-        other => Fault::File {
-            path: paths.swap_remove(fault.index),
-            fault: other,
-        },
-    }
+    let fault = match fault {
+        FileFault::Write => return Fault::Program(ProgramFault::Write),
+        FileFault::Shelf(fault) => InputFault::Open(fault),
+        FileFault::Keys(fault) => InputFault::Keys(fault),
+        FileFault::Snap(fault) => InputFault::Snap(fault),
+    };
+    told_of_input(files, place, fault)
 }

@@ -1,22 +1,21 @@
 //! The commands that make one list of several, between real files and streams.
 
-ghost use Rattle.std.specs.Prelude.{◌≡◌, ◌≢◌, ◌<◌, Err, None, map, string_bytes};
+ghost use Rattle.std.specs.Prelude.{◌≡◌, ◌≢◌, ◌<◌, Err, None, false, map, string_bytes, vec_len};
 ghost use Rattle.std.specs.List.{count_by};
 ghost use Rattle.rh_list_files.specs.Lists.{is_input};
-ghost use Rattle.rhkeys.specs.Asked.{EndsLists, how_asked, output_asked};
+ghost use Rattle.rhkeys.specs.Asked.{EndsLists, how_asked, output_asked, takes_one};
 
-use rh_bytes::Counted;
+use rh_bytes::{Counted, Progress};
 use rh_cli::Status;
 use rh_combine::How;
 use rh_forks::{Team, Workers};
 use rh_key_commands::line::Combination;
-use rh_keys_program::{Fault, ProgressLine, bytes_of, times_named, with_path, workers_of};
+use rh_keys_program::{Fault, is_input_again, times_named, with_path, workers_of};
 use rh_list_commands::{Job, Output, combine_files};
 use rh_shelf::{CountedShelf, FileShelf};
 use std::fs::Files;
 use std::io::Write;
 use std::thread::Threads;
-use std::time::Clock;
 
 /// What the command line asks for.
 #[derive(Drop)]
@@ -26,16 +25,19 @@ pub struct Asked {
     pub count: bool,
     pub packed: bool,
     pub files: Vec<String>,
-    pub on_terminal: bool,
 }
 
 /// Writes what comes of the lists in these files.
-pub fn combine<W: Write + Drop>(
-    rt: &(impl Clock + Files + Input + Eprint + Threads + Sync + AllocGlobal),
+pub fn combine<W: Write + Drop, P: Progress>(
+    rt: &(impl Files + Input + Threads + Sync + AllocGlobal),
     writer: W,
     asked: Asked,
+    progress: &mut P,
 ) -> Result<Status, Fault>
     ensures outputs { output_asked asked.count asked.packed ≡ None → result ≡ Err Fault.TwoOutputs }
+    ensures one { output_asked asked.count asked.packed ≢ None →
+        vec_len asked.files ≡ 1 → takes_one asked.combination ≡ false →
+        result ≡ Err Fault.OneList }
     ensures input { output_asked asked.count asked.packed ≢ None →
         1 < count_by is_input (map string_bytes asked.files.items) → result ≡ Err Fault.InputTwice }
     ensures ends { EndsLists (map string_bytes asked.files.items) result }
@@ -43,10 +45,13 @@ pub fn combine<W: Write + Drop>(
     let Some(output) = output_of(asked.count, asked.packed) else {
         return Err(Fault::TwoOutputs);
     };
-    if times_named(&asked.files) > 1 {
+    if asked.files.len() == 1 && !takes_one(asked.combination) {
+        return Err(Fault::OneList);
+    }
+    let named = times_named(&asked.files);
+    if named > 1 || (named == 1 && is_input_again(rt, &asked.files)) {
         return Err(Fault::InputTwice);
     }
-    let mut line = ProgressLine::new(rt, asked.on_terminal, bytes_of(rt, &asked.files));
     let mut shelf = CountedShelf::new(FileShelf::new(rt));
     let mut input = Counted::new(rt.reader());
     let mut writer = Counted::new(writer);
@@ -61,12 +66,18 @@ pub fn combine<W: Write + Drop>(
         output,
         paths: &asked.files,
     };
-    let outcome = combine_files(&team, &job, &mut shelf, &mut input, &mut writer, &mut line);
-    line.clear();
+    let outcome = combine_files(&team, &job, &mut shelf, &mut input, &mut writer, progress);
     match outcome {
         Ok(()) => Ok(Status::Done),
         Err(fault) => Err(with_path(rt, asked.files, fault)),
     }
+}
+
+/// Whether the command says something of one list. For the others a FILE or a `-` was forgotten.
+fn takes_one(combination: Combination) -> bool
+    ensures { result ≡ takes_one combination }
+{
+    matches!(combination, Combination::Union)
 }
 
 /// What the command makes of the lists.

@@ -6,11 +6,13 @@ mod lists;
 
 use lists::{Asked, combine};
 use rh_arguments::LineFault;
-use rh_cli::{Outlet, ProgramFault, Status, answer, hold_closed, words};
-use rh_key_commands::line::{Line, line};
+use rh_bytes::Progress;
+use rh_cli::{Outlet, ProgramFault, ProgressLine, Status, answer, hold_closed, words};
+use rh_key_commands::line::{Line, line, meant};
 use rh_key_texts::Form;
 use rh_keys_program::{
-    Fault, conclude, list_input, list_paths, pack_streams, parts_asked, plan_streams, split_streams,
+    Fault, Place, bytes_of, conclude, list_input, list_paths, pack_streams, plan_streams,
+    split_streams,
 };
 use rh_splitting::{Source, is_name};
 use std::env::Env;
@@ -23,16 +25,22 @@ use std::time::Clock;
 fn main(rt: HostRuntime) -> ExitCode {
     let _held = hold_closed(&rt);
     let mut outlet = Outlet::new(io::writer(&rt));
-    let on_terminal = rt.stderr().is_terminal();
-    let outcome = carry_out(&rt, &mut outlet, on_terminal);
+    let stream = rt.stderr();
+    let is_terminal = stream.is_terminal();
+    let mut progress = ProgressLine::new(&rt, stream, is_terminal);
+    let outcome = carry_out(&rt, &mut outlet, &mut progress);
+    progress.clear();
     ExitCode::from(conclude(&rt, &outcome, outlet.is_gone()))
 }
 
-fn carry_out<W: Write>(
-    rt: &(impl Clock + Env + Files + Input + Print + Eprint + Threads + Sync + AllocGlobal),
+fn carry_out<R, W: Write, E: Write>(
+    rt: &R,
     outlet: &mut Outlet<W>,
-    on_terminal: bool,
-) -> Result<Status, Fault> {
+    progress: &mut ProgressLine<'_, R, E>,
+) -> Result<Status, Fault>
+where
+    R: Clock + Env + Files + Input + Print + Eprint + Threads + Sync + AllocGlobal,
+{
     let words = words(rt)?;
     match line(rt.alloc(), &words) {
         Ok(
@@ -50,15 +58,20 @@ fn carry_out<W: Write>(
                 count,
                 packed,
                 files,
-                on_terminal,
             };
-            combine(rt, outlet, asked)
+            progress.expect(bytes_of(rt, &asked.files));
+            combine(rt, outlet, asked, progress)
         }
-        Ok(Line::Pack) => pack_streams(rt, outlet),
+        Ok(Line::Pack { files }) => {
+            let place = Place::of(files);
+            progress.expect(place.size(rt));
+            pack_streams(rt, outlet, place, progress)
+        }
         Ok(Line::List { snapshot, files }) => {
             let form = if snapshot { Form::Snapshot } else { Form::Keys };
             if files.is_empty() {
-                list_input(rt, outlet, form)
+                progress.expect(Place::Input.size(rt));
+                list_input(rt, outlet, form, progress)
             } else {
                 list_paths(rt, outlet, files, form)
             }
@@ -69,19 +82,35 @@ fn carry_out<W: Write>(
                 key_file,
                 plan,
                 name,
+                files,
             },
         ) => {
             let source = if key_file { Source::Keys } else { Source::Text };
             if !is_name(&name) {
                 return Err(Fault::Name);
             }
-            let parts = parts_asked(rt, source, parts as u64)?;
+            let (asked, place) = (parts as u64, Place::of(files));
+            progress.expect(place.size(rt));
             match plan {
-                true => plan_streams(rt, outlet, source, parts),
-                false => split_streams(rt, source, parts, &name),
+                true => plan_streams(rt, outlet, source, asked, place, progress),
+                false => split_streams(rt, source, asked, &name, place, progress),
             }
         }
-        Err(LineFault::Words(error)) => Ok(answer(rt, &error)?),
+        Err(LineFault::Words(error)) => {
+            let status = answer(rt, &error)?;
+            tell_meant(rt, &words);
+            Ok(status)
+        }
         Err(LineFault::Memory) => Err(Fault::Program(ProgramFault::Memory)),
+    }
+}
+
+/// Tells what the command is called here, where its word is one of other tools.
+fn tell_meant(rt: &impl Eprint, words: &[String]) {
+    let Some(word) = words.get(1) else {
+        return;
+    };
+    if let Some(name) = meant(word) {
+        let _ = eprintln!(rt; "\nrhkeys: {word} is called {name} here");
     }
 }

@@ -25,21 +25,26 @@ pub enum Line {
         packed: bool,
         files: Vec<String>,
     },
-    /// Write the key file of the numbers on standard input.
-    Pack,
+    /// Write the key file of the numbers in this file: one at the most, and none stands for
+    /// standard input.
+    Pack {
+        files: Vec<String>,
+    },
     /// Write keys as text, those of a key file, or of a snapshot: of each of these files in turn,
     /// or of standard input where none is named.
     List {
         snapshot: bool,
         files: Vec<String>,
     },
-    /// Split the numbers on standard input, or the keys of a key file there, into this many parts,
-    /// with a key file `name` each; or plan that alone, and tell how many keys each part has. 0
-    /// parts: as many as the size of the input asks for.
+    /// Split the numbers in this file, or the keys of it where it is a key file, into this many
+    /// parts, with a key file `name` each; or plan that alone, and tell how many keys each part
+    /// has. 0 parts: as many as the size of the file asks for. There is one file at the most, and
+    /// none stands for standard input.
     Split {
         parts: usize,
         key_file: bool,
         plan: bool,
         name: String,
+        files: Vec<String>,
     },
 }

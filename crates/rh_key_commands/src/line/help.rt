@@ -93,18 +93,23 @@ before and after it. A line with no more than these is skipped, and so is one th
 Numbers may come in any order and any number of times. A line may end with CR LF; the last may lack
 its LF. A byte order mark at the head is passed by.
 
+One FILE alone is taken by `union`, which sorts it.
+
 Nothing is written where a list is refused: the first one that is is told, with its first bad line.
 The lists are held in memory: at most 24 bytes for each number of all lists, 32 MB, and 8 MB for
 each worker. Larger ones are split first: see `rhkeys split --help`. On a terminal, work of more
-than a second tells how far it is.";
+than a second tells how far it is, on a line that is gone before a number is written.";
 
 /// The command `pack`, in a line.
 pub const PACK: &str = "Writes the key file of the numbers of a text";
 
 /// The command `pack`, on `rhkeys pack --help` alone.
 pub const PACK_AT_LENGTH: &str = "\
-Reads a text of numbers from standard input, and writes the key file of these, in their order and
-with their repeats, to standard output.";
+Reads a text of numbers, and writes the key file of these, in their order and with their repeats, to
+standard output.";
+
+/// The argument FILE of a command that reads one list.
+pub const FILE: &str = "The list; - or none: standard input";
 
 /// What `pack` reads and writes.
 pub const PACK_FORMATS: &str = "\
@@ -116,7 +121,8 @@ A key file is the bytes RHK2, the number of keys, and the keys one after another
 each key are 8 bytes, the highest byte first. Nothing is written where the text is refused.
 
 Example, of the numbers 17, 1 and 9:
-  printf '17\\n1\\n9\\n' | rhkeys pack > three.keys";
+  printf '17\\n1\\n9\\n' | rhkeys pack > three.keys
+  rhkeys pack spring.txt > spring.keys";
 
 /// The command `list`, in a line.
 pub const LIST: &str = "Writes the keys of a key file or a snapshot, one a line";
@@ -149,10 +155,10 @@ pub const SPLIT: &str = "Splits a text of numbers of any length into key files o
 
 /// The command `split`, on `rhkeys split --help` alone.
 pub const SPLIT_AT_LENGTH: &str = "\
-Reads a text of numbers of any length from standard input, once, and gives each key to one of N
-parts, by a hash of the key: so the parts are about equally large, whatever the numbers are. The key
-file of part 7 is 007/NAME.keys below the current folder; folders that are not there are made. What
-stood there before is replaced.";
+Reads a text of numbers of any length, once, and gives each key to one of N parts, by a hash of the
+key: so the parts are about equally large, whatever the numbers are. The key file of part 7 is
+007/NAME.keys below the current folder; folders that are not there are made. What stood there before
+is replaced.";
 
 /// The argument `--parts`.
 pub const PARTS: &str =
@@ -185,5 +191,5 @@ The files are written beside their places and put there once all are whole; on a
 is left. Each part has an open file meanwhile: see `ulimit -n`.
 
 Examples:
-  rhkeys split --plan --parts 2 spring < spring.txt
+  rhkeys split --plan --parts 2 spring spring.txt
   rhkeys split --parts 32 spring < spring.txt";

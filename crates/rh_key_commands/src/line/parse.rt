@@ -5,8 +5,8 @@ ghost use Rattle.clap.specs.Words.{app_of, fault_of, found_of, rows_of};
 ghost use Rattle.clap.specs.Words.{subcommand_of, subcommand_rows_of};
 ghost use Rattle.rh_arguments.specs.Faults.{IsOneOf};
 ghost use Rattle.rh_key_commands.specs.Line.{AsksKeys, HasSplitArguments, IsKeysCommand, SaysKeys};
-ghost use Rattle.rh_key_commands.specs.Line.{files_rule, list_app, lists_added, pack_app, parts_rule};
-ghost use Rattle.rh_key_commands.specs.Line.{rhkeys_app, split_app};
+ghost use Rattle.rh_key_commands.specs.Line.{file_rule, files_rule, list_app, lists_added, pack_app, parts_rule};
+ghost use Rattle.rh_key_commands.specs.Line.{named_split, rhkeys_app, split_app};
 ghost use Rattle.rh_arguments.specs.Words.{Finds, IsArg, program_app, texts_of};
 
 use super::asked::{Combination, Line};
@@ -45,11 +45,18 @@ fn line_in(alloc: Global, matches: &ArgMatches<'_>) -> Result<Line, AllocError>
         Some(("union", given)) => lists_asked(alloc, Combination::Union, given),
         Some(("subtract", given)) => lists_asked(alloc, Combination::Subtract, given),
         Some(("xor", given)) => lists_asked(alloc, Combination::Xor, given),
-        Some(("pack", _)) => Ok(Line::Pack),
+        Some(("pack", given)) => pack_asked(alloc, given),
         Some(("list", given)) => list_asked(alloc, given),
         Some(("split", given)) => split_asked(alloc, given),
         _ => unreachable!(),
     }
+}
+
+fn pack_asked(alloc: Global, given: &ArgMatches<'_>) -> Result<Line, AllocError>
+    ensures { IfOk result (λ l. SaysKeys (codes "pack") (rows_of (found_of given.now)) l) }
+{
+    let files = texts(alloc, given, "file")?;
+    Ok(Line::Pack { files })
 }
 
 fn list_asked(alloc: Global, given: &ArgMatches<'_>) -> Result<Line, AllocError>
@@ -68,11 +75,13 @@ fn split_asked(alloc: Global, given: &ArgMatches<'_>) -> Result<Line, AllocError
     let key_file = is_given(given, "key-file");
     let plan = is_given(given, "plan");
     let name = text(alloc, given, "name")?;
+    let files = texts(alloc, given, "file")?;
     Ok(Line::Split {
         parts,
         key_file,
         plan,
         name,
+        files,
     })
 }
 
@@ -87,7 +96,7 @@ fn command<'a>(alloc: Global) -> Result<Command<'a>, AllocError>
         help::STATUSES,
     );
     let with_lists = lists_added(alloc, program);
-    let with_pack = with_subcommand(with_lists, Ok(pack_command(alloc)));
+    let with_pack = with_subcommand(with_lists, pack_command(alloc));
     let with_list = with_subcommand(with_pack, list_command(alloc));
     with_subcommand(with_list, split_command(alloc))
 }
@@ -110,8 +119,8 @@ fn lists_added<'a>(
     with_subcommand(with_subtract, xor)
 }
 
-fn pack_command<'a>(alloc: Global) -> Command<'a>
-    ensures { app_of result ≡ pack_app }
+fn pack_command<'a>(alloc: Global) -> Result<Command<'a>, AllocError>
+    ensures { IfOk result (λ c. app_of c ≡ pack_app) }
 {
     describe(
         alloc,
@@ -120,6 +129,7 @@ fn pack_command<'a>(alloc: Global) -> Command<'a>
         help::PACK_AT_LENGTH,
         help::PACK_FORMATS,
     )
+    .arg(file_arg(alloc))
 }
 
 fn list_command<'a>(alloc: Global) -> Result<Command<'a>, AllocError>
@@ -138,6 +148,13 @@ fn list_command<'a>(alloc: Global) -> Result<Command<'a>, AllocError>
 
 fn split_command<'a>(alloc: Global) -> Result<Command<'a>, AllocError>
     ensures { IfOk result (λ c. app_of c ≡ split_app) }
+{
+    named_split(alloc)?.arg(file_arg(alloc))
+}
+
+// The command without its FILE: with one argument more, a proof of it takes too long.
+fn named_split<'a>(alloc: Global) -> Result<Command<'a>, AllocError>
+    ensures { IfOk result (λ c. app_of c ≡ named_split) }
 {
     describe(
         alloc,
@@ -162,6 +179,15 @@ fn parts_arg<'a>(alloc: Global) -> Arg<'a>
         .value_parser(value_parser!(usize).range(0..=MAX_PARTS as i64))
         .default_value("0")
         .help(help::PARTS)
+}
+
+fn file_arg<'a>(alloc: Global) -> Arg<'a>
+    ensures { IsArg file_rule result }
+{
+    Arg::new(alloc, "file")
+        .value_name("FILE")
+        .action(ArgAction::Set)
+        .help(help::FILE)
 }
 
 fn files_arg<'a>(alloc: Global) -> Arg<'a>

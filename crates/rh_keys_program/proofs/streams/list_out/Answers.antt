@@ -2,7 +2,7 @@ use Rattle.std.proofs.Common.{subst}
 use Rattle.std.specs.Io.Buffered.{writer_contents}
 use Rattle.rh_bytes.specs.Counting.{inner_of}
 use Rattle.rh_key_texts.specs.List.{Lists}
-use Rattle.rh_cli.proofs.EndingLemmas.{ends_with, told_as_tells}
+use Rattle.rh_cli.proofs.EndingLemmas.{ends_with}
 use Rattle.rh_keys_program.proofs.streams.list_out.Goals as goal
 
 pub returns : goal.returns
@@ -10,4 +10,4 @@ returns g c =
     let left = inner_of c.list_keys-listed.new.writer in
     ends_with g.W.Write.contents left c.into_inner.result _ _ _
     (subst (λ w. Lists (g.R.Read.remaining (inner_of c.args.reader.now)) (g.R.Read.remaining (inner_of c.list_keys-listed.new.reader)) (writer_contents g.W.Write.contents w) (writer_contents g.W.Write.contents left) c.list_keys-listed.result) c.new-writer.ensures.inner c.list_keys-listed.ensures.listed)
-    c.into_inner.ensures (told_as_tells _ _ _ c.listing.ensures) c.finish.ensures
+    c.into_inner.ensures c.listing.ensures c.finish.ensures

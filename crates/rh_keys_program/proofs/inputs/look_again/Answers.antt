@@ -1,0 +1,5 @@
+use Rattle.rh_keys_program.proofs.inputs.look_again.Goals as goal
+
+-- what the first bytes say is of any line
+pub returns : goal.returns
+returns g c = c.in-Some.ensures c.args.line

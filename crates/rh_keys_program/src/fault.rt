@@ -1,0 +1,113 @@
+//! Why the program ends early, in the words that the user is told.
+
+use rh_cli::ProgramFault;
+use rh_key_files::{KeyFault, MAX_KEYS};
+use rh_numbers::{Excerpt, TextFault};
+use rh_shelf::ShelfFault;
+use rh_snapshot::SnapFault;
+use rh_splitting::FilesFault;
+use std::fmt::{self, Display, Formatter, Write};
+use thiserror::Error;
+
+/// Why a run ends early, in the words that the user is told.
+#[derive(Debug, Drop, Error)]
+pub enum Fault {
+    #[error(transparent)]
+    Program(#[from] ProgramFault),
+    /// What was read there has this fault.
+    #[error("{place}{fault}{reason}{found}")]
+    Input {
+        place: Place,
+        fault: InputFault,
+        reason: Reason,
+        found: Found,
+    },
+    /// A part of a list was not written, and no other one was.
+    #[error(transparent)]
+    Part(FilesFault),
+    /// A part of a list is too full; so many parts would do, by the size of the input. (All repeats
+    /// of a number go to one part, which no number of parts helps.)
+    #[error("part {part:03}: more than {} keys; by the size of the input {parts} parts would do, \
+         where no number repeats so often", MAX_KEYS)]
+    TooFull {
+        part: u64,
+        parts: u64,
+    },
+    #[error("standard input is named twice")]
+    InputTwice,
+    /// Of one list all but `union` would write its numbers.
+    #[error("one FILE alone: name two at least, - is standard input; union sorts one")]
+    OneList,
+    #[error("--count and --packed are asked for at once")]
+    TwoOutputs,
+    #[error("the input is no file whose size is known: give --parts N")]
+    Size,
+    #[error("bad name: 1 to 200 bytes of printable ASCII, no space or slash")]
+    Name,
+}
+
+/// What is wrong with what was read.
+#[derive(Clone, Copy, Debug, PartialEq, Eq, Error)]
+pub enum InputFault {
+    /// Never `ShelfFault::Write`.
+    #[error(transparent)]
+    Open(ShelfFault),
+    #[error(transparent)]
+    Text(TextFault),
+    #[error(transparent)]
+    Keys(KeyFault),
+    #[error(transparent)]
+    Snap(SnapFault),
+}
+
+/// What was read.
+#[derive(Debug, Drop)]
+pub enum Place {
+    /// Standard input, which was not named.
+    Input,
+    /// The file at the path, or standard input, which was named `-`.
+    File(String),
+}
+
+impl Display for Place {
+    fn fmt<W: Write>(&self, f: &mut Formatter<W>) -> fmt::Result {
+        match self {
+            Place::Input => Ok(()),
+            Place::File(path) => write!(f, "{path}: "),
+        }
+    }
+}
+
+/// What stands in a line that is no number, as far as it can be looked at again.
+#[derive(Clone, Copy, Debug, Error)]
+pub enum Found {
+    /// Nothing is told: the fault is none of a line, or the file has changed.
+    #[error("")]
+    Nothing,
+    #[error(": {0}")]
+    Line(Excerpt),
+    /// It came through a pipe, or on standard input.
+    #[error("; it is read once: sed -n {line}p shows the line")]
+    Once { line: u64 },
+    /// The file begins as a gzip'd one.
+    #[error(": gzip'd, try <(gzip -dc FILE)")]
+    Zipped,
+    #[error(": a snapshot, see rhkeys list --snapshot")]
+    Snapshot,
+    /// The file begins with a mark of UTF-16.
+    #[error(": UTF-16, try <(iconv -f UTF-16 -t UTF-8 FILE)")]
+    Wide,
+}
+
+/// What the system says of a file that was not opened or read.
+#[derive(Clone, Copy, Debug, PartialEq, Eq, Error)]
+pub enum Reason {
+    #[error("")]
+    Unknown,
+    #[error(": no such file")]
+    NoFile,
+    #[error(": permission denied")]
+    NoRight,
+    #[error(": is a directory")]
+    Folder,
+}

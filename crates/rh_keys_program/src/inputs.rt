@@ -1,0 +1,211 @@
+//! What the system says of what is read, and what is told of it.
+
+ghost use Rattle.std.specs.Prelude.{◌≡◌, ◌↔◌, ℕ, IfSome};
+ghost use Rattle.std.specs.Fs.{IsDir, file_type};
+ghost use Rattle.rh_keys_program.specs.Endings.{ending_by, ending_by_input};
+ghost use Rattle.rh_keys_program.specs.Told.{Explains, IsFolderOrNone, IsOfLine, IsSizeIn};
+ghost use Rattle.rh_keys_program.specs.Told.{MayShow, TellsInput};
+ghost use Rattle.rh_keys_program.specs.Told.{path_of, reason_of_kind};
+
+use crate::fault::{Fault, Found, InputFault, Place, Reason};
+use rh_bytes::{Counted, Filled, fill_front};
+use rh_cli::ProgramFault;
+use rh_key_files::KeyFault;
+use rh_list_files::INPUT;
+use rh_numbers::{TextFault, line_at};
+use rh_shelf::ShelfFault;
+use rh_snapshot::SnapFault;
+use std::fs::{self, Files, Metadata};
+use std::io::ErrorKind;
+use std::os::unix::fs::{FileTypeExt, MetadataExt};
+
+/// Where the system has standard input.
+const STANDARD_INPUT: &str = "/dev/stdin";
+
+impl Place {
+    ghost use Rattle.std.specs.Prelude.{◌≡◌, [], ◌∷◌, ◌⊎◌, Some, None, map, string_bytes};
+    ghost use Rattle.rh_keys_program.specs.Told.{path_of};
+
+    /// The one file that is named, or standard input where none is.
+    pub fn of(mut files: Vec<String>) -> Place
+        ensures none { files.items ≡ [] → path_of result ≡ None }
+    {
+        match files.pop() {
+            Some(path) => Place::File(path),
+            None => Place::Input,
+        }
+    }
+
+    /// The path of the file, where it is not standard input.
+    pub(crate) fn file(&self) -> Option<&str> {
+        match self {
+            Place::File(path) if path.as_str() != INPUT => Some(path),
+            _ => None,
+        }
+    }
+
+    /// How many bytes stand there, where that is a file.
+    pub fn size(&self, files: &impl Files) -> Option<u64> {
+        size_of(files, self.file().unwrap_or(STANDARD_INPUT))
+    }
+}
+
+/// How many bytes stand at the path, where that is a file.
+pub(crate) fn size_of(files: &impl Files, path: &str) -> Option<u64> {
+    match fs::metadata(files, path) {
+        Ok(metadata) => size_in(&metadata),
+        Err(_) => None,
+    }
+}
+
+/// The size that the system says, if it is that of a file.
+fn size_in(metadata: &Metadata) -> Option<u64>
+    ensures { IsSizeIn metadata.now result }
+{
+    metadata.is_file().then_some(metadata.len())
+}
+
+/// Whether a file beside standard input, which is named, is the same pipe: `-` takes all that comes
+/// of it.
+pub fn is_input_again(files: &impl Files, paths: &[String]) -> bool {
+    let Some(input) = pipe_at(files, STANDARD_INPUT) else {
+        return false;
+    };
+    paths.iter().any(|path| path.as_str() != INPUT && pipe_at(files, path) == Some(input))
+}
+
+/// The pipe at the path, as the system numbers it, where it is one.
+fn pipe_at(files: &impl Files, path: &str) -> Option<(u64, u64)> {
+    let Ok(metadata) = fs::metadata(files, path) else {
+        return None;
+    };
+    metadata
+        .file_type()
+        .is_fifo()
+        .then_some((metadata.dev(), metadata.ino()))
+}
+
+/// What is told of this fault of what was read. Want of memory is no fault of that.
+pub(crate) fn told_of_input(files: &impl Files, place: Place, fault: InputFault) -> Fault
+    ensures ending { ending_by result ≡ ending_by_input fault }
+    ensures tells { TellsInput (path_of place) fault result }
+{
+    match fault {
+        InputFault::Open(ShelfFault::Memory)
+        | InputFault::Text(TextFault::Memory)
+        | InputFault::Keys(KeyFault::Memory)
+        | InputFault::Snap(SnapFault::Memory) => Fault::Program(ProgramFault::Memory),
+        _ => {
+            let reason = reason_of(files, &place, fault);
+            let found = found_in(files, &place, fault);
+            Fault::Input {
+                place,
+                fault,
+                reason,
+                found,
+            }
+        }
+    }
+}
+
+/// Why it was not opened or read, as far as the system says it now. Of standard input it says
+/// nothing: where that is closed, a folder stands in its place.
+fn reason_of(files: &impl Files, place: &Place, fault: InputFault) -> Reason
+    ensures { Explains fault result }
+{
+    let Some(path) = place.file() else {
+        return Reason::Unknown;
+    };
+    match fault {
+        InputFault::Open(_) => match fs::open(files, path) {
+            Ok(_) => Reason::Unknown,
+            Err(error) => reason_of_kind(error.kind()),
+        },
+        InputFault::Text(TextFault::Read)
+        | InputFault::Keys(KeyFault::Read)
+        | InputFault::Snap(SnapFault::Read) => match fs::metadata(files, path) {
+            Ok(metadata) => reason_in(&metadata),
+            Err(_) => Reason::Unknown,
+        },
+        _ => Reason::Unknown,
+    }
+}
+
+/// What stands in the line that is refused. A file is looked at again; what came through a pipe, or
+/// on standard input, which may have been begun behind its first line, is gone.
+fn found_in(files: &impl Files, place: &Place, fault: InputFault) -> Found
+    ensures { MayShow fault result }
+{
+    let InputFault::Text(TextFault::NotAKey { line } | TextFault::OutOfRange { line }) = fault
+    else {
+        return Found::Nothing;
+    };
+    let Some(path) = place.file() else {
+        return Found::Once { line };
+    };
+    if size_of(files, path).is_none() {
+        return Found::Once { line };
+    }
+    look_again(files, path, line)
+}
+
+/// What stands in this line of the file, or what its first bytes say of all of it.
+fn look_again(files: &impl Files, path: &str, line: u64) -> Found
+    ensures { IsOfLine line result }
+{
+    if line == 1
+        && let Some(found) = kind_of_file(files, path)
+    {
+        return found;
+    }
+    let Ok(file) = fs::open(files, path) else {
+        return Found::Nothing;
+    };
+    match line_at(&mut Counted::new(file), line) {
+        Some(excerpt) => Found::Line(excerpt),
+        None => Found::Nothing,
+    }
+}
+
+/// What the first bytes of the file say that it is, where they say that it is no text.
+fn kind_of_file(files: &impl Files, path: &str) -> Option<Found>
+    ensures { (line : ℕ) → IfSome result (IsOfLine line) }
+{
+    let Ok(file) = fs::open(files, path) else {
+        return None;
+    };
+    let mut head = [0; 4];
+    let Filled { count, failed } = fill_front(&mut Counted::new(file), &mut head);
+    if failed || count < head.len() {
+        return None;
+    }
+    match head {
+        [0x1f, 0x8b, _, _] => Some(Found::Zipped),
+        [b'R', b'H', b'S', _] => Some(Found::Snapshot),
+        [0xff, 0xfe, _, _] | [0xfe, 0xff, _, _] => Some(Found::Wide),
+        _ => None,
+    }
+}
+
+/// Why a file was not opened, of which the system says this.
+fn reason_of_kind(kind: ErrorKind) -> Reason
+    ensures { result ≡ reason_of_kind kind }
+{
+    match kind {
+        ErrorKind::NotFound => Reason::NoFile,
+        ErrorKind::PermissionDenied => Reason::NoRight,
+        _ => Reason::Unknown,
+    }
+}
+
+/// Why a file of which a read failed was not read: a folder can be opened, but not read.
+fn reason_in(metadata: &Metadata) -> Reason
+    ensures folder { IsDir (file_type metadata.now) ↔ result ≡ Reason.Folder }
+    ensures unknown { IsFolderOrNone result }
+{
+    if metadata.is_dir() {
+        Reason::Folder
+    } else {
+        Reason::Unknown
+    }
+}
