@@ -106,6 +106,7 @@ fn union<T: Threads + Sync>(
         workers: Workers { count: 1 },
     };
     let job = Job {
+        skip: 0,
         how: How::Union,
         output: Output::Lines,
         paths: &paths,
@@ -137,7 +138,7 @@ fn the_first_list_with_a_fault_is_told(rt: HostRuntime) -> Result<(), Fail> {
             alloc: rt.alloc(),
             workers: Workers { count: 1 },
         };
-        let lists = read_paths(&team, &mut shelf, &paths, &mut input, &mut Nobody);
+        let lists = read_paths(&team, &mut shelf, &paths, 0, &mut input, &mut Nobody);
         let told = CommandFault::List { index: 1, fault };
         assert_eq!(rt; lists.err(), Some(told), "{name} {failure:?}");
         assert_eq!(rt; shelf.failed_reads(), failed_reads, "{name} {failure:?}");

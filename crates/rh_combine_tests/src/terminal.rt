@@ -103,6 +103,7 @@ fn no_number_is_written_where_a_line_stands(rt: HostRuntime) -> Result<(), Fail>
             workers: Workers { count: 1 },
         };
         let job = Job {
+            skip: 0,
             how: How::Union,
             output,
             paths: &paths,

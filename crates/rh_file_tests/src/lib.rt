@@ -23,6 +23,8 @@ mod numbers;
 #[cfg(test)]
 mod packing;
 #[cfg(test)]
+mod skipping;
+#[cfg(test)]
 mod snapshot;
 #[cfg(test)]
 mod splitting;

@@ -7,20 +7,21 @@ use Rattle.rh_key_commands.specs.Line.{IsKeysCommand, rhkeys_app}
 use Rattle.rh_arguments.specs.Words.{Finds}
 use Rattle.rh_arguments.proofs.CommandLemmas.{EachMeets, help_alone, words_find}
 use Rattle.rh_key_commands.specs.declared.line.asked.Combination.TheVariants.{Intersect, Union, Subtract, Xor}
-use Rattle.rh_key_commands.proofs.ListsLemmas.{workers_found}
+use Rattle.rh_key_commands.proofs.ListsLemmas.{list_arguments}
+use Rattle.rh_key_commands.proofs.PackLemmas.{pack_arguments}
 use Rattle.rh_key_commands.proofs.SplitLemmas.{split_arguments}
 
 each_command : (word : Text) (rest : List Text) → (word ≡ codes "help" → ⊥) → EachMeets IsKeysCommand word rest (built rhkeys_app).subs
 each_command word rest other = (
-  λ is below. inl (Intersect, refl, workers_found (codes "intersect") rest below),
+  λ is below. inl (Intersect, refl, list_arguments (codes "intersect") rest below),
   (
-    λ is below. inl (Union, refl, workers_found (codes "union") rest below),
+    λ is below. inl (Union, refl, list_arguments (codes "union") rest below),
     (
-      λ is below. inl (Subtract, refl, workers_found (codes "subtract") rest below),
+      λ is below. inl (Subtract, refl, list_arguments (codes "subtract") rest below),
       (
-        λ is below. inl (Xor, refl, workers_found (codes "xor") rest below),
+        λ is below. inl (Xor, refl, list_arguments (codes "xor") rest below),
         (
-          λ is below. inr (inl refl),
+          λ is below. inr (inl (refl, pack_arguments rest below)),
           (
             λ is below. inr (inr (inl refl)),
             (λ is below. inr (inr (inr (refl, split_arguments rest below))), (λ is below. absurd (help_alone word other is), tt)),

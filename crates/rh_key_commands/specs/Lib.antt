@@ -1,3 +1,4 @@
 pub mod Flags
+pub mod Skip
 pub mod Lists
 pub mod Line

@@ -9,16 +9,17 @@ use Rattle.rh_key_commands.specs.declared.line.asked.Line.TheVariants.{Combine, 
 use Rattle.rh_key_commands.specs.declared.line.asked.Combination.{Combination}
 use Rattle.rh_key_commands.specs.declared.limits.TheConstants.{MAX_PARTS, MAX_WORKERS}
 use Rattle.rh_key_commands.specs.Flags.{IsGiven, flag_rule}
-use Rattle.rh_key_commands.specs.Lists.{HasWorkers, lists_app, name_of}
+use Rattle.rh_key_commands.specs.Lists.{HasListArguments, lists_app, name_of}
+use Rattle.rh_key_commands.specs.Skip.{GivesSkip, HasSkip, skip_rule}
 use Rattle.rh_arguments.specs.Words.{IsTextFor, GivesAll, GivesNumber, HasNumber, HasText, path_rule, program_app}
 
 -- one file at the most
 abbrev pub file_rule : Rule
 file_rule = record (new_rule (codes "file")) { action = Some Set; value_names = 1 }
 
--- the command `pack` takes a file
+-- the command `pack` takes a file, and how many of its lines are passed by
 abbrev pub pack_app : App
-pack_app = with_rule (new_app (codes "pack")) file_rule
+pack_app = with_rule (with_rule (new_app (codes "pack")) file_rule) skip_rule
 
 -- any number of files
 abbrev pub files_rule : Rule
@@ -38,12 +39,12 @@ parts_rule = record (new_rule (codes "parts")) {
   parser = Some (Unsigned 0 MAX_PARTS);
 }
 
--- the command `split` takes a number of parts, these flags, a name, and a file
+-- the command `split` takes a number of parts, these flags, a name, a file, and how many of its lines are passed by
 abbrev pub named_split : App
 named_split = with_rule (with_rule (with_rule (with_rule (new_app (codes "split")) parts_rule) (flag_rule (codes "key-file"))) (flag_rule (codes "plan"))) (path_rule (codes "name"))
 
 abbrev pub split_app : App
-split_app = with_rule named_split file_rule
+split_app = with_rule (with_rule named_split file_rule) skip_rule
 
 -- the program with the commands that make one list of several
 abbrev pub lists_added : App
@@ -55,25 +56,25 @@ abbrev pub rhkeys_app : App
 rhkeys_app = with_subcommand (with_subcommand (with_subcommand lists_added pack_app.top) list_app.top) split_app.top
 
 abbrev pub HasSplitArguments : List Row → Type 0
-HasSplitArguments rows = HasNumber (codes "parts") 0 MAX_PARTS rows × HasText (codes "name") rows
+HasSplitArguments rows = HasNumber (codes "parts") 0 MAX_PARTS rows × HasText (codes "name") rows × HasSkip rows
 
 -- the name of a command, with what it needs
 abbrev pub IsKeysCommand : Text → List Row → Type 0
 IsKeysCommand name rows =
-    ((how : Combination) × (name ≡ name_of how) × HasWorkers rows)
-    ⊎ ((name ≡ codes "pack") ⊎ ((name ≡ codes "list") ⊎ ((name ≡ codes "split") × HasSplitArguments rows)))
+    ((how : Combination) × (name ≡ name_of how) × HasListArguments rows)
+    ⊎ (((name ≡ codes "pack") × HasSkip rows) ⊎ ((name ≡ codes "list") ⊎ ((name ≡ codes "split") × HasSplitArguments rows)))
 
 -- the line is the command, with what was found for it
 abbrev pub SaysKeys : Text → List Row → Line → Type 0
-SaysKeys name rows (Combine how workers count packed files) =
+SaysKeys name rows (Combine how workers count packed skip files) =
     (name ≡ name_of how) × GivesNumber (codes "workers") 0 MAX_WORKERS rows workers × (IsTrue count ↔ IsGiven (codes "count") rows)
-    × (IsTrue packed ↔ IsGiven (codes "packed") rows) × GivesAll (codes "file") rows files.items
-SaysKeys name rows (Pack files) = (name ≡ codes "pack") × GivesAll (codes "file") rows files.items
+    × (IsTrue packed ↔ IsGiven (codes "packed") rows) × GivesSkip rows skip × GivesAll (codes "file") rows files.items
+SaysKeys name rows (Pack skip files) = (name ≡ codes "pack") × GivesSkip rows skip × GivesAll (codes "file") rows files.items
 SaysKeys name rows (Listing snapshot files) =
     (name ≡ codes "list") × (IsTrue snapshot ↔ IsGiven (codes "snapshot") rows) × GivesAll (codes "file") rows files.items
-SaysKeys name rows (Split parts key_file plan text files) =
+SaysKeys name rows (Split parts key_file plan text skip files) =
     (name ≡ codes "split") × GivesNumber (codes "parts") 0 MAX_PARTS rows parts × (IsTrue key_file ↔ IsGiven (codes "key-file") rows)
-    × (IsTrue plan ↔ IsGiven (codes "plan") rows) × IsTextFor (codes "name") rows text × GivesAll (codes "file") rows files.items
+    × (IsTrue plan ↔ IsGiven (codes "plan") rows) × IsTextFor (codes "name") rows text × GivesSkip rows skip × GivesAll (codes "file") rows files.items
 
 -- a command was found, and the line is that
 abbrev pub AsksKeys : Option (Text × List Row) → Line → Type 0

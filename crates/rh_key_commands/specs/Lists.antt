@@ -6,6 +6,7 @@ use Rattle.clap.specs.declared.builder.action.ArgAction.TheVariants.{Append, Set
 use Rattle.clap.specs.declared.builder.value_parser.ValueParser.TheVariants.{Unsigned}
 use Rattle.rh_arguments.specs.Words.{HasNumber}
 use Rattle.rh_key_commands.specs.Flags.{flag_rule}
+use Rattle.rh_key_commands.specs.Skip.{HasSkip, skip_rule}
 use Rattle.rh_key_commands.specs.declared.limits.TheConstants.{MAX_WORKERS}
 use Rattle.rh_key_commands.specs.declared.line.asked.Combination.{Combination}
 use Rattle.rh_key_commands.specs.declared.line.asked.Combination.TheVariants.{Intersect, Union, Subtract, Xor}
@@ -31,9 +32,12 @@ workers_rule = record (new_rule (codes "workers")) {
 abbrev pub lists_rule : Rule
 lists_rule = record (new_rule (codes "file")) { action = Some Append; value_names = 1; required = true }
 
--- such a command takes a number of workers, two flags, and files
-abbrev pub lists_app : Text → App
-lists_app name = with_rule (with_rule (with_rule (with_rule (new_app name) workers_rule) (flag_rule (codes "count"))) (flag_rule (codes "packed"))) lists_rule
+-- such a command takes a number of workers, two flags, files, and how many lines are passed by
+abbrev pub unskipped_app : Text → App
+unskipped_app name = with_rule (with_rule (with_rule (with_rule (new_app name) workers_rule) (flag_rule (codes "count"))) (flag_rule (codes "packed"))) lists_rule
 
-abbrev pub HasWorkers : List Row → Type 0
-HasWorkers rows = HasNumber (codes "workers") 0 MAX_WORKERS rows
+abbrev pub lists_app : Text → App
+lists_app name = with_rule (unskipped_app name) skip_rule
+
+abbrev pub HasListArguments : List Row → Type 0
+HasListArguments rows = HasNumber (codes "workers") 0 MAX_WORKERS rows × HasSkip rows

@@ -6,6 +6,7 @@ mod flags;
 mod help;
 mod lists;
 mod parse;
+mod skip;
 
 pub use crate::limits::MAX_WORKERS;
 pub use asked::{Combination, Line};

@@ -86,6 +86,9 @@ pub enum Found {
     Nothing,
     #[error(": {0}")]
     Line(Excerpt),
+    /// The first line begins with a name.
+    #[error(": {0}; --skip 1 passes a heading by")]
+    Heading(Excerpt),
     /// It came through a pipe, or on standard input.
     #[error("; it is read once: sed -n {line}p shows the line")]
     Once { line: u64 },

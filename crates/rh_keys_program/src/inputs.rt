@@ -19,6 +19,9 @@ use std::fs::{self, Files, Metadata};
 use std::io::ErrorKind;
 use std::os::unix::fs::{FileTypeExt, MetadataExt};
 
+/// So many bytes of a file say what it is.
+const HEAD_BYTES: usize = 4;
+
 /// Where the system has standard input.
 const STANDARD_INPUT: &str = "/dev/stdin";
 
@@ -153,38 +156,54 @@ fn found_in(files: &impl Files, place: &Place, fault: InputFault) -> Found
 fn look_again(files: &impl Files, path: &str, line: u64) -> Found
     ensures { IsOfLine line result }
 {
-    if line == 1
-        && let Some(found) = kind_of_file(files, path)
-    {
-        return found;
+    let head = head_of(files, path);
+    match kind_of(head) {
+        Some(found) => found,
+        None => line_found(files, path, line, begins_a_name(head)),
     }
+}
+
+/// What stands in this line of the file, whose first line may be a heading.
+fn line_found(files: &impl Files, path: &str, line: u64, has_heading: bool) -> Found
+    ensures { IsOfLine line result }
+{
     let Ok(file) = fs::open(files, path) else {
         return Found::Nothing;
     };
     match line_at(&mut Counted::new(file), line) {
+        Some(excerpt) if line == 1 && has_heading => Found::Heading(excerpt),
         Some(excerpt) => Found::Line(excerpt),
         None => Found::Nothing,
     }
 }
 
-/// What the first bytes of the file say that it is, where they say that it is no text.
-fn kind_of_file(files: &impl Files, path: &str) -> Option<Found>
+/// The first bytes of the file, or zeros where it has not so many.
+fn head_of(files: &impl Files, path: &str) -> [u8; HEAD_BYTES] {
+    let mut head = [0; HEAD_BYTES];
+    if let Ok(file) = fs::open(files, path) {
+        let Filled { count, failed } = fill_front(&mut Counted::new(file), &mut head);
+        if !failed && count == HEAD_BYTES {
+            return head;
+        }
+    }
+    [0; HEAD_BYTES]
+}
+
+/// What a file is that begins so, where that is no text.
+fn kind_of(head: [u8; HEAD_BYTES]) -> Option<Found>
     ensures { (line : ℕ) → IfSome result (IsOfLine line) }
 {
-    let Ok(file) = fs::open(files, path) else {
-        return None;
-    };
-    let mut head = [0; 4];
-    let Filled { count, failed } = fill_front(&mut Counted::new(file), &mut head);
-    if failed || count < head.len() {
-        return None;
-    }
     match head {
         [0x1f, 0x8b, _, _] => Some(Found::Zipped),
-        [b'R', b'H', b'S', _] => Some(Found::Snapshot),
+        [b'R', b'H', b'S', b'1' | b'2'] => Some(Found::Snapshot),
         [0xff, 0xfe, _, _] | [0xfe, 0xff, _, _] => Some(Found::Wide),
         _ => None,
     }
+}
+
+/// Whether a text that begins so has a name in its first line, as the heading of a table has.
+fn begins_a_name(head: [u8; HEAD_BYTES]) -> bool {
+    head[0].is_ascii_alphabetic() || head[0] == b'"'
 }
 
 /// Why a file was not opened, of which the system says this.

@@ -16,6 +16,7 @@ use crate::fault::{Fault, InputFault, Place};
 use crate::inputs::told_of_input;
 use rh_bytes::{Counted, Progress, WriteFault};
 use rh_cli::{Outlet, ProgramFault, Status, Watched, buffered_writer, finish};
+use rh_lists::Skipping;
 use rh_shelf::{FileShelf, Shelf};
 use rh_splitting::{
     FilesFault, Part, PartFiles, Source, SplitFault, counting_parts, parts_chosen, split_source,
@@ -24,14 +25,15 @@ use rh_splitting::{
 use std::fs::Files;
 use std::io::{BufWriter, Read, Write};
 
-/// Splits what stands there into key files below the current folder: into as many parts as are
-/// asked for, or where that is 0 as its size asks for.
+/// Splits what stands there, without so many lines of a text, into key files below the current
+/// folder: into as many parts as are asked for, or where that is 0 as its size asks for.
 pub fn split_streams(
     rt: &(impl Files + Input + AllocGlobal),
     source: Source,
     asked: u64,
     name: &str,
     place: Place,
+    skip: u64,
     progress: &mut impl Progress,
 ) -> Result<Status, Fault>
     requires few { asked ≤ MAX_PARTS }
@@ -39,12 +41,12 @@ pub fn split_streams(
     ensures { EndsSplitting source asked (path_of place) result }
 {
     let Some(path) = place.file() else {
-        let reader = Watched::new(rt.reader(), progress);
+        let reader = Skipping::new(skip, Watched::new(rt.reader(), progress));
         return split_from(rt, reader, source, asked, name, place);
     };
     match FileShelf::new(rt).fetch(rt.alloc(), path) {
         Ok(file) => {
-            let reader = Watched::new(file, progress);
+            let reader = Skipping::new(skip, Watched::new(file, progress));
             split_from(rt, reader, source, asked, name, place)
         }
         Err(fault) => Err(told_of_input(rt, place, InputFault::Open(fault))),
@@ -150,25 +152,27 @@ fn fault_of_full(source: Source, part: u64, parts: u64, size: Option<u64>) -> Fa
     }
 }
 
-/// Writes to standard output how many keys of what stands there each part would have, and no file.
+/// Writes to standard output how many keys of what stands there, without so many lines of a text,
+/// each part would have, and no file.
 pub fn plan_streams<W: Write>(
     rt: &(impl Files + Input + AllocGlobal),
     outlet: &mut Outlet<W>,
     source: Source,
     asked: u64,
     place: Place,
+    skip: u64,
     progress: &mut impl Progress,
 ) -> Result<Status, Fault>
     requires few { asked ≤ MAX_PARTS }
     ensures { EndsPlanning source asked (path_of place) result }
 {
     let Some(path) = place.file() else {
-        let reader = Watched::new(rt.reader(), progress);
+        let reader = Skipping::new(skip, Watched::new(rt.reader(), progress));
         return plan_from(rt, reader, outlet, source, asked, place);
     };
     match FileShelf::new(rt).fetch(rt.alloc(), path) {
         Ok(file) => {
-            let reader = Watched::new(file, progress);
+            let reader = Skipping::new(skip, Watched::new(file, progress));
             plan_from(rt, reader, outlet, source, asked, place)
         }
         Err(fault) => Err(told_of_input(rt, place, InputFault::Open(fault))),

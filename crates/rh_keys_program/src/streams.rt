@@ -18,25 +18,31 @@ use rh_key_texts::{
     FaultAt, FileFault, Form, HeldFault, ListFault, PackFault, list_files, list_keys,
     list_snapshot, pack,
 };
+use rh_lists::Skipping;
 use rh_shelf::{CountedShelf, FileShelf, Lender, Shelf};
 use std::alloc::Global;
 use std::fs::Files;
 use std::io::{BufWriter, Read, Write};
 
-/// Packs the text that stands there to standard output.
+/// Packs the text that stands there, without so many lines, to standard output.
 pub fn pack_streams<W: Write>(
     rt: &(impl Files + Input + AllocGlobal),
     outlet: &mut Outlet<W>,
     place: Place,
+    skip: u64,
     progress: &mut impl Progress,
 ) -> Result<Status, Fault>
     ensures { EndsReading (TellsPack (path_of place)) (path_of place) result }
 {
     let Some(path) = place.file() else {
-        return pack_from(rt, Watched::new(rt.reader(), progress), outlet, place);
+        let reader = Skipping::new(skip, Watched::new(rt.reader(), progress));
+        return pack_from(rt, reader, outlet, place);
     };
     match FileShelf::new(rt).fetch(rt.alloc(), path) {
-        Ok(reader) => pack_from(rt, Watched::new(reader, progress), outlet, place),
+        Ok(file) => {
+            let reader = Skipping::new(skip, Watched::new(file, progress));
+            pack_from(rt, reader, outlet, place)
+        }
         Err(fault) => Err(told_of_input(rt, place, InputFault::Open(fault))),
     }
 }

@@ -8,6 +8,7 @@ ghost use Rattle.rh_key_files.specs.declared.version.Version.TheVariants.{Second
 ghost use Rattle.rh_pieces.specs.Pieces.{keys_in};
 ghost use Rattle.rh_numbers.specs.Writing.{number_line, text_of};
 ghost use Rattle.rh_list_commands.specs.Commands.{EndsCommand, WritesText, written};
+ghost use Rattle.rh_list_files.specs.Lists.{seen};
 ghost use Rattle.rh_list_files.specs.Reading.{IsInside};
 
 use crate::output::Output;
@@ -31,9 +32,12 @@ pub struct Job<'a> {
     /// Where the lists are. `-` is standard input, which is read once: what another `-` finds is
     /// nothing.
     pub paths: &'a [String],
+    /// So many lines of each file that is a text are passed by.
+    pub skip: u64,
 }
 
-/// Reads the lists at these paths, and writes what comes of them. Nothing is written before all are
+/// Reads the lists at these paths, and writes what comes of them. The input is read as it is:
+/// whoever passes lines of it by too hands a `Skipping` over. Nothing is written before all are
 /// read. Each write is a large one, so that no buffer is wanted, and before each what was told of
 /// progress is taken away. What is written does not depend on how many workers the team has.
 pub fn combine_files<T: Threads + Sync, S: Lender, I: Read, W: Write, P: Progress>(
@@ -45,11 +49,12 @@ pub fn combine_files<T: Threads + Sync, S: Lender, I: Read, W: Write, P: Progres
     progress: &mut P,
 ) -> Result<(), CommandFault>
     ensures command { EndsCommand job.now.how job.now.output (map string_bytes job.now.paths.now)
-        (S.state shelf.old) (S.state shelf.new) I.remaining input.old input.new
+        (seen job.now.skip (S.state shelf.old)) (seen job.now.skip (S.state shelf.new))
+        I.remaining input.old input.new
         W.contents writer.old writer.new result }
     ensures inside { IfErr result (IsInside (length job.now.paths.now)) }
 {
-    let lists = read_paths(team, shelf, job.paths, input, progress)?;
+    let lists = read_paths(team, shelf, job.paths, job.skip, input, progress)?;
     match write_lists(team, job, lists, writer, progress) {
         Ok(()) => Ok(()),
         Err(CombineFault::Memory) => Err(CommandFault::Memory),

@@ -7,7 +7,13 @@ use Rattle.rh_pieces.specs.Pieces.{keys_in}
 use Rattle.rh_lists.specs.Lists.{ReadsKeyList, list_said}
 use Rattle.rh_lists.specs.declared.fault.ListFault.{ListFault}
 use Rattle.rh_pieces.specs.declared.list.KeyList.{KeyList}
-use Rattle.rh_list_files.specs.Lists.{AreNumbers, GiveEach, GivesNumbers, GivesBy, is_input}
+use Rattle.rh_lists.specs.Blanks.{skipping}
+use Rattle.rh_list_files.specs.Lists.{AreNumbers, GiveEach, GivesNumbers, GivesBy, is_input, without_heads}
+
+-- what a file says of which so many lines are passed by
+pub skips_found : (skip : ℕ) (files : Option Files) (path : List ℕ) (bytes : Option (List ℕ)) → Finds files path bytes → Finds (option_map (without_heads skip) files) path (option_map (skipping skip) bytes)
+skips_found skip None path bytes found = tt
+skips_found skip (Some files) path bytes (there, is, same) = (skipping skip there, ap (option_map (skipping skip)) is, ap (option_map (skipping skip)) same)
 
 pub numbers_read : (old new : Option (List ℕ)) (list : KeyList) → ReadsKeyList old new (Ok list) → AreNumbers old new (keys_in list)
 numbers_read None new list read = tt

@@ -1,5 +1,5 @@
 -- The lists that a command reads: what their bytes say, and the first fault in them.
-use Rattle.std.specs.Prelude.{◌≡◌, ◌⊎◌, ℕ, Bool, true, false, List, [], ◌∷◌, codes, Option, Some, None, Result, Ok, Err, IfErr, MatchResult, OnOk}
+use Rattle.std.specs.Prelude.{◌≡◌, ◌⊎◌, ℕ, Bool, true, false, List, [], ◌∷◌, codes, Option, Some, None, option_map, Result, Ok, Err, IfErr, MatchResult, OnOk}
 use Rattle.std.specs.Str.{bytes_eq}
 use Rattle.rh_bytes.specs.Counting.{Rose, failures_of, inner_of}
 use Rattle.rh_bytes.specs.Input.{Unless}
@@ -13,6 +13,7 @@ use Rattle.rh_shelf.specs.declared.shelf.ShelfFault.TheVariants.{Missing, Memory
 use Rattle.rh_key_files.specs.Reading.{BeginsWithLongHeader, TakesGoodKeys, long_header_at}
 use Rattle.rh_pieces.specs.Pieces.{keys_in}
 use Rattle.rh_lists.specs.Lists.{HasBytes, TakesGoodLines, is_list_silent, list_said}
+use Rattle.rh_lists.specs.Blanks.{skipping}
 use Rattle.rh_lists.specs.declared.fault.ListFault.{ListFault}
 use Rattle.rh_lists.specs.declared.fault.ListFault.TheVariants.{Text, Keys}
 use Rattle.rh_pieces.specs.declared.list.KeyList.{KeyList}
@@ -22,6 +23,14 @@ use Rattle.rh_list_files.specs.declared.fault.FileFault.TheVariants.{Shelf, List
 -- the path that stands for standard input
 abbrev pub is_input : List ℕ → Bool
 is_input path = bytes_eq path (codes "-")
+
+-- the files, of which so many lines of each text are passed by
+abbrev pub without_heads : (skip : ℕ) → Files → Files
+without_heads skip files path = option_map (skipping skip) (files path)
+
+-- a shelf of whose texts so many lines are passed by
+abbrev pub seen : (skip : ℕ) → ShelfState → ShelfState
+seen skip shelf = record { files = option_map (without_heads skip) shelf.files; failures = shelf.failures; failed_reads = shelf.failed_reads }
 
 -- The bytes, where they are known, are a list of these numbers, and what `list_said` leaves of them is left: nothing.
 abbrev pub AreNumbers : (bytes left : Option (List ℕ)) → List ℕ → Type 0

@@ -2,14 +2,14 @@
 
 ghost use Rattle.std.specs.Prelude.{◌≡◌, IfErr, length, map, string_bytes};
 ghost use Rattle.rh_pieces.specs.Pieces.{keys_in};
-ghost use Rattle.rh_list_files.specs.Lists.{AnswersFile, AnswersPath, tells_failed_read};
+ghost use Rattle.rh_list_files.specs.Lists.{AnswersFile, AnswersPath, seen, tells_failed_read};
 ghost use Rattle.rh_list_files.specs.Reading.{AnswersPaths, IsInside};
 
 use crate::fault::{CommandFault, FileFault};
 use rh_bytes::{Counted, Progress};
 use rh_forks::Team;
 use rh_key_files::KeyFault;
-use rh_lists::{ListFault, read_list};
+use rh_lists::{ListFault, Skipping, read_list};
 use rh_numbers::TextFault;
 use rh_pieces::KeyList;
 use rh_shelf::Lender;
@@ -19,16 +19,19 @@ use std::thread::Threads;
 /// The path that stands for standard input.
 pub const INPUT: &str = "-";
 
-/// Reads the list in the file at the path.
+/// Reads the list in the file at the path, without so many lines of a text.
 fn read_file<T: Threads + Sync, S: Lender, P: Progress>(
     team: &Team<'_, T>,
     shelf: &mut S,
     path: &str,
+    skip: u64,
     progress: &mut P,
 ) -> Result<KeyList, FileFault>
-    ensures { AnswersFile (S.state shelf.old) (S.state shelf.new) path.now result }
+    ensures { AnswersFile (seen skip (S.state shelf.old)) (seen skip (S.state shelf.new))
+        path.now result }
 {
-    let mut reader = Counted::new(shelf.lend(team.alloc, path)?);
+    let file = shelf.lend(team.alloc, path)?;
+    let mut reader = Counted::new(Skipping::new(skip, file));
     match read_list(team, &mut reader, progress) {
         Ok(list) => Ok(list),
         Err(fault) => {
@@ -56,36 +59,41 @@ fn read_path<T: Threads + Sync, S: Lender, I: Read, P: Progress>(
     team: &Team<'_, T>,
     shelf: &mut S,
     path: &str,
+    skip: u64,
     input: &mut Counted<I>,
     progress: &mut P,
 ) -> Result<KeyList, FileFault>
-    ensures { AnswersPath I.remaining (S.state shelf.old) (S.state shelf.new) path.now
-        input.old input.new result }
+    ensures { AnswersPath I.remaining (seen skip (S.state shelf.old))
+        (seen skip (S.state shelf.new)) path.now input.old input.new result }
 {
     if path == INPUT {
         let list = read_list(team, input, progress)?;
         return Ok(list);
     }
-    read_file(team, shelf, path, progress)
+    read_file(team, shelf, path, skip, progress)
 }
 
 /// Reads the lists at these paths, one after the other, up to the first that has a fault. `-` is
 /// standard input, which is read once: what another `-` finds is nothing.
+///
+/// The first `skip` lines of each file that is a text are read as blank ones. The input is read as
+/// it is: whoever passes lines of it by too hands a `Skipping` over.
 pub fn read_paths<T: Threads + Sync, S: Lender, I: Read, P: Progress>(
     team: &Team<'_, T>,
     shelf: &mut S,
     paths: &[String],
+    skip: u64,
     input: &mut Counted<I>,
     progress: &mut P,
 ) -> Result<Vec<KeyList>, CommandFault>
     ensures lists { AnswersPaths (λ lists. map keys_in lists.items) I.remaining
-        (S.state shelf.old) (S.state shelf.new) (map string_bytes paths.now)
-        input.old input.new result }
+        (seen skip (S.state shelf.old)) (seen skip (S.state shelf.new))
+        (map string_bytes paths.now) input.old input.new result }
     ensures inside { IfErr result (IsInside (length paths.now)) }
 {
     let mut lists = Vec::new(team.alloc);
     for index in 0..paths.len() {
-        match read_path(team, shelf, &paths[index], input, progress) {
+        match read_path(team, shelf, &paths[index], skip, input, progress) {
             Ok(list) => {
                 let Ok(()) = lists.push(list) else {
                     return Err(CommandFault::Memory);

@@ -3,10 +3,12 @@
 -- Ending: the end of a text, and its first fault.
 -- Texts: a text that is read block by block.
 -- Told: what the first four bytes tell of a list.
+-- Skips: what a reader that skips lines gives.
 -- Agreeing: two readings of the same bytes.
 
 pub mod Joining
 pub mod Ending
 pub mod Texts
 pub mod Told
+pub mod Skips
 pub mod Agreeing

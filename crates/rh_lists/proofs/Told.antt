@@ -17,7 +17,7 @@ use Rattle.rh_pieces.specs.Pieces.{keys_in}
 use Rattle.rh_lists.specs.Lists.{ReadsKeyList, file_or_text, is_list_silent, is_text_silent, list_said, of_file, of_text}
 use Rattle.rh_lists.specs.Parts.{ReadsTextList, Refuses}
 
-few_bytes : (bytes : List ℕ) → length bytes < 4 → version_at bytes ≡ Err faults.Short
+pub few_bytes : (bytes : List ℕ) → length bytes < 4 → version_at bytes ≡ Err faults.Short
 unfolding version_at bytes_at
 few_bytes bytes few = rw (begins_not 4 bytes few) refl
 

@@ -19,6 +19,8 @@
 //! - Bytes that came before a failed read hold no bad line, nor behind a header a bad key; but
 //!   before its fourth byte a list is not known to be a text. Want of memory for a key file
 //!   comes only behind a header that can be read, and behind good keys.
+//! - `Skipping`: it gives the bytes of its reader with spaces in place of the first lines, so many as
+//!   are asked for, and of a key file all bytes.
 //! - `lists_agree`: what two readings of the same bytes answer is the same, but for these.
 //!
 //! Memory: 8 bytes for each key and 24 for each piece, of which a text has one for each worker and
@@ -29,11 +31,13 @@
 #![tactic(auto)]
 
 mod ahead;
+mod blanks;
 mod fault;
 mod laws;
 mod limits;
 mod part;
 mod reading;
+mod skipping;
 mod text;
 mod workers;
 
@@ -41,3 +45,4 @@ pub use fault::ListFault;
 pub use laws::lists_agree;
 pub use limits::BLOCK_BYTES;
 pub use reading::{read_list, read_list_in_blocks};
+pub use skipping::Skipping;

@@ -5,6 +5,7 @@ ghost use Rattle.rh_lists.specs.Lists.{AnswersList};
 
 use crate::fault::ListFault;
 use crate::limits::BLOCK_BYTES;
+use crate::skipping::MAGIC_BYTES;
 use crate::text::{read_short_text, read_text};
 use rh_bytes::{Counted, Filled, Progress, fill_front};
 use rh_forks::Team;
@@ -13,9 +14,6 @@ use rh_numbers::TextFault;
 use rh_pieces::KeyList;
 use std::io::Read;
 use std::thread::Threads;
-
-/// How many bytes the magic of a key file has.
-const MAGIC_BYTES: usize = 4;
 
 /// Reads a list: a key file of either version, which its first four bytes tell, or else a text of
 /// numbers. It has any length. What is answered does not depend on how many workers read.

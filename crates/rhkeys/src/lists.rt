@@ -12,6 +12,7 @@ use rh_forks::{Team, Workers};
 use rh_key_commands::line::Combination;
 use rh_keys_program::{Fault, is_input_again, times_named, with_path, workers_of};
 use rh_list_commands::{Job, Output, combine_files};
+use rh_lists::Skipping;
 use rh_shelf::{CountedShelf, FileShelf};
 use std::fs::Files;
 use std::io::Write;
@@ -24,6 +25,7 @@ pub struct Asked {
     pub workers: usize,
     pub count: bool,
     pub packed: bool,
+    pub skip: u64,
     pub files: Vec<String>,
 }
 
@@ -53,7 +55,7 @@ pub fn combine<W: Write + Drop, P: Progress>(
         return Err(Fault::InputTwice);
     }
     let mut shelf = CountedShelf::new(FileShelf::new(rt));
-    let mut input = Counted::new(rt.reader());
+    let mut input = Counted::new(Skipping::new(asked.skip, rt.reader()));
     let mut writer = Counted::new(writer);
     let count = workers_of(rt, asked.workers);
     let team = Team {
@@ -65,6 +67,7 @@ pub fn combine<W: Write + Drop, P: Progress>(
         how: how_of(asked.combination),
         output,
         paths: &asked.files,
+        skip: asked.skip,
     };
     let outcome = combine_files(&team, &job, &mut shelf, &mut input, &mut writer, progress);
     match outcome {

@@ -49,6 +49,7 @@ where
                 workers,
                 count,
                 packed,
+                skip,
                 files,
             },
         ) => {
@@ -57,15 +58,16 @@ where
                 workers,
                 count,
                 packed,
+                skip: skip as u64,
                 files,
             };
             progress.expect(bytes_of(rt, &asked.files));
             combine(rt, outlet, asked, progress)
         }
-        Ok(Line::Pack { files }) => {
+        Ok(Line::Pack { skip, files }) => {
             let place = Place::of(files);
             progress.expect(place.size(rt));
-            pack_streams(rt, outlet, place, progress)
+            pack_streams(rt, outlet, place, skip as u64, progress)
         }
         Ok(Line::List { snapshot, files }) => {
             let form = if snapshot { Form::Snapshot } else { Form::Keys };
@@ -82,6 +84,7 @@ where
                 key_file,
                 plan,
                 name,
+                skip,
                 files,
             },
         ) => {
@@ -89,11 +92,11 @@ where
             if !is_name(&name) {
                 return Err(Fault::Name);
             }
-            let (asked, place) = (parts as u64, Place::of(files));
+            let (asked, skip, place) = (parts as u64, skip as u64, Place::of(files));
             progress.expect(place.size(rt));
             match plan {
-                true => plan_streams(rt, outlet, source, asked, place, progress),
-                false => split_streams(rt, source, asked, &name, place, progress),
+                true => plan_streams(rt, outlet, source, asked, place, skip, progress),
+                false => split_streams(rt, source, asked, &name, place, skip, progress),
             }
         }
         Err(LineFault::Words(error)) => {

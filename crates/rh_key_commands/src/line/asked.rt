@@ -13,7 +13,7 @@ pub enum Combination {
     Xor,
 }
 
-/// A command, with its arguments.
+/// A command, with its arguments. `skip` lines of each text are passed by.
 #[derive(Drop)]
 pub enum Line {
     /// Write what is made of the lists in these files, or how many numbers that are, or a key file
@@ -23,11 +23,13 @@ pub enum Line {
         workers: usize,
         count: bool,
         packed: bool,
+        skip: usize,
         files: Vec<String>,
     },
     /// Write the key file of the numbers in this file: one at the most, and none stands for
     /// standard input.
     Pack {
+        skip: usize,
         files: Vec<String>,
     },
     /// Write keys as text, those of a key file, or of a snapshot: of each of these files in turn,
@@ -45,6 +47,7 @@ pub enum Line {
         key_file: bool,
         plan: bool,
         name: String,
+        skip: usize,
         files: Vec<String>,
     },
 }

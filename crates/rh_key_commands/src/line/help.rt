@@ -82,6 +82,9 @@ pub const COUNT: &str = "Write how many numbers that are, and not the numbers";
 /// The flag `--packed`.
 pub const PACKED: &str = "Write a key file, and not a text";
 
+/// The argument `--skip`.
+pub const SKIP: &str = "Pass by the first N lines of each text, as a heading is; their line feeds count";
+
 /// The argument FILE of a command on lists.
 pub const LIST_FILES: &str = "Texts of numbers or key files; - is standard input";
 
@@ -188,7 +191,8 @@ the input: one for each 1050000 bytes of a text, or 1200000 of a key file. That 
 pipe the size is not known.
 
 The files are written beside their places and put there once all are whole; on a fault none of them
-is left. Each part has an open file meanwhile: see `ulimit -n`.
+is left. A run that is killed or interrupted has to be run again before the parts are used. Each part
+has an open file meanwhile: see `ulimit -n`.
 
 Examples:
   rhkeys split --plan --parts 2 spring spring.txt

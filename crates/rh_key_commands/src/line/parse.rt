@@ -7,12 +7,14 @@ ghost use Rattle.rh_arguments.specs.Faults.{IsOneOf};
 ghost use Rattle.rh_key_commands.specs.Line.{AsksKeys, HasSplitArguments, IsKeysCommand, SaysKeys};
 ghost use Rattle.rh_key_commands.specs.Line.{file_rule, files_rule, list_app, lists_added, pack_app, parts_rule};
 ghost use Rattle.rh_key_commands.specs.Line.{named_split, rhkeys_app, split_app};
+ghost use Rattle.rh_key_commands.specs.Skip.{HasSkip};
 ghost use Rattle.rh_arguments.specs.Words.{Finds, IsArg, program_app, texts_of};
 
 use super::asked::{Combination, Line};
 use super::flags::{flag_arg, is_given};
 use super::help;
 use super::lists::{lists_asked, lists_command};
+use super::skip::{skip_arg, skip_asked};
 use crate::limits::MAX_PARTS;
 use clap::{Arg, ArgAction, ArgMatches, Command, value_parser};
 use rh_arguments::LineFault;
@@ -53,10 +55,12 @@ fn line_in(alloc: Global, matches: &ArgMatches<'_>) -> Result<Line, AllocError>
 }
 
 fn pack_asked(alloc: Global, given: &ArgMatches<'_>) -> Result<Line, AllocError>
+    requires { HasSkip (rows_of (found_of given.now)) }
     ensures { IfOk result (λ l. SaysKeys (codes "pack") (rows_of (found_of given.now)) l) }
 {
+    let skip = skip_asked(given);
     let files = texts(alloc, given, "file")?;
-    Ok(Line::Pack { files })
+    Ok(Line::Pack { skip, files })
 }
 
 fn list_asked(alloc: Global, given: &ArgMatches<'_>) -> Result<Line, AllocError>
@@ -75,12 +79,14 @@ fn split_asked(alloc: Global, given: &ArgMatches<'_>) -> Result<Line, AllocError
     let key_file = is_given(given, "key-file");
     let plan = is_given(given, "plan");
     let name = text(alloc, given, "name")?;
+    let skip = skip_asked(given);
     let files = texts(alloc, given, "file")?;
     Ok(Line::Split {
         parts,
         key_file,
         plan,
         name,
+        skip,
         files,
     })
 }
@@ -129,7 +135,8 @@ fn pack_command<'a>(alloc: Global) -> Result<Command<'a>, AllocError>
         help::PACK_AT_LENGTH,
         help::PACK_FORMATS,
     )
-    .arg(file_arg(alloc))
+    .arg(file_arg(alloc))?
+    .arg(skip_arg(alloc))
 }
 
 fn list_command<'a>(alloc: Global) -> Result<Command<'a>, AllocError>
@@ -149,10 +156,12 @@ fn list_command<'a>(alloc: Global) -> Result<Command<'a>, AllocError>
 fn split_command<'a>(alloc: Global) -> Result<Command<'a>, AllocError>
     ensures { IfOk result (λ c. app_of c ≡ split_app) }
 {
-    named_split(alloc)?.arg(file_arg(alloc))
+    named_split(alloc)?
+        .arg(file_arg(alloc))?
+        .arg(skip_arg(alloc))
 }
 
-// The command without its FILE: with one argument more, a proof of it takes too long.
+// The command without its FILE and `--skip`: with one argument more, a proof of it takes too long.
 fn named_split<'a>(alloc: Global) -> Result<Command<'a>, AllocError>
     ensures { IfOk result (λ c. app_of c ≡ named_split) }
 {
