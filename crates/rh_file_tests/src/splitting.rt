@@ -248,6 +248,10 @@ fn a_fault_can_be_printed(rt: HostRuntime) -> Result<(), Fail> {
             "part 000: cannot make the key file",
         ),
         (
+            FilesFault::TooManyOpen { part: 96 },
+            "part 096: too many open files, see ulimit -n",
+        ),
+        (
             FilesFault::Left { part: 3 },
             "part 003: too many files of runs that were cut: remove 003/NAME.keys.rhset-part-*",
         ),

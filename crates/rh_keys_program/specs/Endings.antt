@@ -36,6 +36,7 @@ ending_by_part (files.Split (split.Keys fault)) = ending_by_keys fault
 ending_by_part (files.Split (split.TooMany part)) = Refused
 ending_by_part (files.Split (split.Write part)) = Write
 ending_by_part (files.Create part) = Write
+ending_by_part (files.TooManyOpen part) = Write
 ending_by_part (files.Left part) = Write
 ending_by_part (files.Write part) = Write
 ending_by_part files.Memory = Memory

@@ -133,6 +133,7 @@ fn told_of_split(
         FilesFault::Memory => Fault::Program(ProgramFault::Memory),
         FilesFault::Split(SplitFault::Write { .. })
         | FilesFault::Create { .. }
+        | FilesFault::TooManyOpen { .. }
         | FilesFault::Left { .. }
         | FilesFault::Write { .. } => Fault::Part(fault),
     }

@@ -4,7 +4,7 @@ ghost use Rattle.std.specs.Prelude.{◌≡◌};
 ghost use Rattle.rh_keys_program.specs.Endings.{ending, ending_by, ending_by_input, ending_by_part};
 
 use crate::fault::{Fault, InputFault};
-use rh_cli::Status;
+use rh_cli::{ProgramFault, Status};
 use rh_endings::{status_of_keys, status_of_snapshot};
 use rh_key_files::KeyFault;
 use rh_numbers::TextFault;
@@ -52,9 +52,10 @@ fn status_of_part(fault: &FilesFault) -> Status
         FilesFault::Split(SplitFault::Keys(KeyFault::Memory)) => Status::Memory,
         FilesFault::Split(SplitFault::Write { .. }) => Status::Write,
         FilesFault::Split(_) => Status::Refused,
-        FilesFault::Create { .. } | FilesFault::Left { .. } | FilesFault::Write { .. } => {
-            Status::Write
-        }
+        FilesFault::Create { .. }
+        | FilesFault::TooManyOpen { .. }
+        | FilesFault::Left { .. }
+        | FilesFault::Write { .. } => Status::Write,
         FilesFault::Memory => Status::Memory,
     }
 }
@@ -63,7 +64,13 @@ fn status_of_part(fault: &FilesFault) -> Status
 pub fn tell(rt: &impl Eprint, fault: &Fault) -> Status
     ensures { result ≡ ending_by fault.now }
 {
-    let _ = eprintln!(rt; "rhkeys: {fault}");
+    let _ = match fault {
+        // More memory is seldom to be had, but a list can be split.
+        Fault::Program(ProgramFault::Memory) => {
+            eprintln!(rt; "rhkeys: {fault}; see rhkeys-combine --help")
+        }
+        _ => eprintln!(rt; "rhkeys: {fault}"),
+    };
     fault.status()
 }
 

@@ -34,6 +34,7 @@ SplitsList source bytes left count (Ok x) = IsListFrom source bytes left
 SplitsList source bytes left count (Err (files.Split fault)) = IsNotSplit source bytes left count fault
 SplitsList source bytes left count (Err (files.Write part)) = Keeps bytes left ⊎ IsListFrom source bytes left
 SplitsList source bytes left count (Err (files.Create part)) = Keeps bytes left
+SplitsList source bytes left count (Err (files.TooManyOpen part)) = Keeps bytes left
 SplitsList source bytes left count (Err (files.Left part)) = Keeps bytes left
 SplitsList source bytes left count (Err files.Memory) = Keeps bytes left
 

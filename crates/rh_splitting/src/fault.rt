@@ -49,6 +49,9 @@ pub enum FilesFault {
     Split(SplitFault),
     #[error("part {part:03}: cannot make the key file")]
     Create { part: u64 },
+    /// The program has as many open files as the system lets it have.
+    #[error("part {part:03}: too many open files, see ulimit -n")]
+    TooManyOpen { part: u64 },
     /// All names beside its place are taken.
     #[error("part {part:03}: too many files of runs that were cut: \
          remove {part:03}/NAME.keys{}*", BESIDE)]

@@ -13,6 +13,10 @@ use std::alloc::Global;
 use std::fs::{self, Files, OpenFile};
 use std::io::{self, BufWriter, ErrorKind, Read, Seek, SeekFrom, Write};
 
+/// What Linux says where the program has as many open files as it may (`EMFILE`). Std has no kind
+/// of error for that.
+const TOO_MANY_OPEN: i32 = 24;
+
 /// Where the key file of a part is written, and where it stands in the end.
 #[derive(Drop)]
 struct PartFile {
@@ -261,6 +265,9 @@ fn make_folder<F: Files>(alloc: Global, files: &F, part: u64) -> Result<(), File
 fn creation_fault(error: &io::Error, part: u64) -> FilesFault
     ensures { IsOfFiles result }
 {
+    if error.raw_os_error() == Some(TOO_MANY_OPEN) {
+        return FilesFault::TooManyOpen { part };
+    }
     match error.kind() {
         ErrorKind::OutOfMemory => FilesFault::Memory,
         ErrorKind::AlreadyExists => FilesFault::Left { part },
