@@ -19,7 +19,7 @@ use Rattle.rh_numbers.proofs.Excerpts.{first_bytes, same_shown}
 abbrev pub HasMark : (part rest : List ℕ) → Type 0
 HasMark part rest = (3 ≤ length part) ⊎ (rest ≡ [])
 
-mark_in_front : (part rest : List ℕ) → HasMark part rest → without_mark (part ++ rest) ≡ without_mark part ++ rest
+pub mark_in_front : (part rest : List ℕ) → HasMark part rest → without_mark (part ++ rest) ≡ without_mark part ++ rest
 mark_in_front part rest (inr end) = ap (λ l. without_mark (part ++ l)) end ∙ ap without_mark (append-nil part) ∙ sym (ap (λ l. without_mark part ++ l) end ∙ append-nil (without_mark part))
 mark_in_front [] rest (inl long) = absurd (omega (arith, long))
 mark_in_front (a ∷ []) rest (inl long) = absurd (omega (arith, long))

@@ -11,7 +11,7 @@ pub const SHOWN_BYTES: usize = 40;
 
 /// So many are held: one more, which says whether the line goes on, and one that may be a carriage
 /// return at its end.
-pub(crate) const HELD_BYTES: usize = SHOWN_BYTES + 2;
+pub const HELD_BYTES: usize = SHOWN_BYTES + 2;
 
 /// The beginning of a line of a text. It is shown in quotes, as in `"customer_id"`: printable ASCII
 /// as it is, a quote and a backslash with a backslash before them, and any other byte as `\xEF`.
@@ -28,7 +28,7 @@ impl Excerpt {
     ghost use Rattle.rh_numbers.specs.Excerpt.{held_by, without_return};
 
     /// Nothing is held yet.
-    pub(crate) fn new() -> Excerpt
+    pub fn new() -> Excerpt
         ensures { held_by result ≡ [] }
     {
         Excerpt {
@@ -45,7 +45,7 @@ impl Excerpt {
     }
 
     /// Holds the next byte of the line too, where there is room for it.
-    pub(crate) fn push(&mut self, b: u8)
+    pub fn push(&mut self, b: u8)
         ensures { held_by self.new ≡ take HELD_BYTES (held_by self.old ++ b ∷ []) }
     {
         if self.length < HELD_BYTES {
@@ -55,7 +55,7 @@ impl Excerpt {
     }
 
     /// The same without a carriage return at its end.
-    pub(crate) fn without_return(self) -> Excerpt
+    pub fn without_return(self) -> Excerpt
         ensures { held_by result ≡ without_return (held_by self) }
     {
         let Excerpt { bytes, length } = self;

@@ -47,12 +47,12 @@ mod text;
 mod writing;
 
 pub use chunk::{Chunk, ChunkEnd, read_chunk};
-pub use excerpt::{Excerpt, SHOWN_BYTES};
+pub use excerpt::{Excerpt, HELD_BYTES, SHOWN_BYTES};
 pub use fault::TextFault;
 pub use laws::{any_length, first_fault, fixed_numbers, one_meaning, text_in_chunks};
 pub use limits::{MAX_BYTES, MAX_READS, PART_BYTES};
 pub use line_so_far::{BadLine, LineSoFar};
 pub use reading::Reading;
-pub use search::line_at;
+pub use search::{behind_mark, line_at};
 pub use text::read_numbers;
 pub use writing::write_numbers;

@@ -57,7 +57,7 @@ impl BadLine {
 
 impl LineSoFar {
     /// What it has said after the next byte.
-    pub(crate) fn next(self, b: u8) -> LineSoFar
+    pub fn next(self, b: u8) -> LineSoFar
         ensures { result ≡ next self b }
     {
         match self {

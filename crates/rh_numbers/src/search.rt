@@ -51,7 +51,7 @@ fn lines_of(before: u64, part: &[u8]) -> &[u8]
 }
 
 /// The text without a byte order mark at its head.
-fn behind_mark(text: &[u8]) -> &[u8]
+pub fn behind_mark(text: &[u8]) -> &[u8]
     ensures { result.now ≡ without_mark text.now }
 {
     if text.len() < 3 || text[0] != 0xEF || text[1] != 0xBB || text[2] != 0xBF {
