@@ -1,9 +1,12 @@
-//! Tests of what comes of lists, by one worker and by several, and of lists at paths, from outside.
+//! Tests of what comes of lists, by one worker and by several, of lists at paths, and of lists that are
+//! checked, from outside.
 //!
 //! They stand apart from the code, so that each crate is proved once, and not once more with its
 //! tests.
 #![tactic(auto)]
 
+#[cfg(test)]
+mod checks;
 #[cfg(test)]
 mod long;
 #[cfg(test)]
