@@ -26,17 +26,20 @@ fn listing_of(alloc: Global, words: &[&str]) -> Result<Option<(bool, bool)>, Fai
         Ok(line) => match line {
             Line::Pack { .. } => Some((false, false)),
             Line::List { snapshot, .. } => Some((true, snapshot)),
-            Line::Combine { .. } | Line::Split { .. } => None,
+            Line::Combine { .. } | Line::Check { .. } | Line::Split { .. } => None,
         },
         Err(_fault) => None,
     })
 }
 
-// The files that are named, of words that are `list`, `pack` or `split`.
+// The files that are named, of words that are `check`, `list`, `pack` or `split`.
 fn files_of(alloc: Global, words: &[&str]) -> Result<Option<Vec<String>>, Fail> {
     Ok(match line_of(alloc, words)? {
         Ok(line) => match line {
-            Line::List { files, .. } | Line::Pack { files } | Line::Split { files, .. } => Some(files),
+            Line::Check { files, .. }
+            | Line::List { files, .. }
+            | Line::Pack { files, .. }
+            | Line::Split { files, .. } => Some(files),
             Line::Combine { .. } => None,
         },
         Err(_fault) => None,
@@ -54,7 +57,8 @@ fn split_of(alloc: Global, words: &[&str]) -> Result<Option<(usize, bool, bool, 
                 name,
                 files: _files,
             } => Some((parts, key_file, plan, name)),
-            Line::Combine { .. } | Line::Pack { .. } | Line::List { .. } => None,
+            Line::Combine { .. } | Line::Check { .. } | Line::Pack { .. } | Line::List { .. } =>
+                None,
         },
         Err(_fault) => None,
     })
@@ -81,11 +85,16 @@ const FILES: &[(&[&str], &[&str])] = &[
     (&["list", "a.keys"], &["a.keys"]),
     (&["list", "b", "--snapshot", "a", "b"], &["b", "a", "b"]),
     (&["list", "--", "--snapshot", ""], &["--snapshot", ""]),
+    (&["check"], &[]),
+    (&["check", "b", "-", "a"], &["b", "-", "a"]),
     (&["pack"], &[]),
     (&["pack", "ids.txt"], &["ids.txt"]),
     (&["pack", "-"], &["-"]),
     (&["split", "spring"], &[]),
-    (&["split", "--parts", "2", "spring", "ids.txt"], &["ids.txt"]),
+    (
+        &["split", "--parts", "2", "spring", "ids.txt"],
+        &["ids.txt"],
+    ),
     (&["split", "spring", "-", "--plan"], &["-"]),
 ];
 
@@ -146,6 +155,7 @@ const MISTAKES: &[&[&str]] = &[
     &["unpack"],
     &["pack", "a", "b"],
     &["pack", "--snapshot"],
+    &["check", "--count", "a"],
     &["list", "--keys"],
     &["list", "--snapshot=true"],
     &["list", "--snapshot", "--snapshot"],
@@ -174,6 +184,7 @@ const HELP: &[&[&str]] = &[
     &["-h"],
     &["help", "pack"],
     &["pack", "--help"],
+    &["check", "--help"],
     &["help", "list"],
     &["list", "-h"],
     &["list", "--snapshot", "--help"],

@@ -8,7 +8,7 @@ use Rattle.rh_arguments.specs.Words.{Finds}
 use Rattle.rh_arguments.proofs.CommandLemmas.{EachMeets, help_alone, words_find}
 use Rattle.rh_key_commands.specs.declared.line.asked.Combination.TheVariants.{Intersect, Union, Subtract, Xor}
 use Rattle.rh_key_commands.proofs.ListsLemmas.{list_arguments}
-use Rattle.rh_key_commands.proofs.PackLemmas.{pack_arguments}
+use Rattle.rh_key_commands.proofs.SkipLemmas.{check_arguments, pack_arguments}
 use Rattle.rh_key_commands.proofs.SplitLemmas.{split_arguments}
 
 each_command : (word : Text) (rest : List Text) → (word ≡ codes "help" → ⊥) → EachMeets IsKeysCommand word rest (built rhkeys_app).subs
@@ -21,10 +21,13 @@ each_command word rest other = (
       (
         λ is below. inl (Xor, refl, list_arguments (codes "xor") rest below),
         (
-          λ is below. inr (inl (refl, pack_arguments rest below)),
+          λ is below. inr (inl (refl, check_arguments rest below)),
           (
-            λ is below. inr (inr (inl refl)),
-            (λ is below. inr (inr (inr (refl, split_arguments rest below))), (λ is below. absurd (help_alone word other is), tt)),
+            λ is below. inr (inr (inl (refl, pack_arguments rest below))),
+            (
+              λ is below. inr (inr (inr (inl refl))),
+              (λ is below. inr (inr (inr (inr (refl, split_arguments rest below)))), (λ is below. absurd (help_alone word other is), tt)),
+            ),
           ),
         ),
       ),

@@ -5,7 +5,7 @@ use Rattle.clap.specs.Simple.{App, new_app, new_rule, with_rule, with_subcommand
 use Rattle.clap.specs.declared.builder.action.ArgAction.TheVariants.{Append, Set}
 use Rattle.clap.specs.declared.builder.value_parser.ValueParser.TheVariants.{Unsigned}
 use Rattle.rh_key_commands.specs.declared.line.asked.Line.{Line}
-use Rattle.rh_key_commands.specs.declared.line.asked.Line.TheVariants.{Combine, Pack, List as Listing, Split}
+use Rattle.rh_key_commands.specs.declared.line.asked.Line.TheVariants.{Combine, Check, Pack, List as Listing, Split}
 use Rattle.rh_key_commands.specs.declared.line.asked.Combination.{Combination}
 use Rattle.rh_key_commands.specs.declared.limits.TheConstants.{MAX_PARTS, MAX_WORKERS}
 use Rattle.rh_key_commands.specs.Flags.{IsGiven, flag_rule}
@@ -17,13 +17,17 @@ use Rattle.rh_arguments.specs.Words.{IsTextFor, GivesAll, GivesNumber, HasNumber
 abbrev pub file_rule : Rule
 file_rule = record (new_rule (codes "file")) { action = Some Set; value_names = 1 }
 
--- the command `pack` takes a file, and how many of its lines are passed by
-abbrev pub pack_app : App
-pack_app = with_rule (with_rule (new_app (codes "pack")) file_rule) skip_rule
-
 -- any number of files
 abbrev pub files_rule : Rule
 files_rule = record (new_rule (codes "file")) { action = Some Append; value_names = 1 }
+
+-- the command `check` takes files, and how many lines are passed by
+abbrev pub check_app : App
+check_app = with_rule (with_rule (new_app (codes "check")) files_rule) skip_rule
+
+-- the command `pack` takes a file, and how many of its lines are passed by
+abbrev pub pack_app : App
+pack_app = with_rule (with_rule (new_app (codes "pack")) file_rule) skip_rule
 
 -- the command `list` takes the flag `--snapshot`, and files
 abbrev pub list_app : App
@@ -53,7 +57,7 @@ lists_added =
     (lists_app (codes "intersect")).top) (lists_app (codes "union")).top) (lists_app (codes "subtract")).top) (lists_app (codes "xor")).top
 
 abbrev pub rhkeys_app : App
-rhkeys_app = with_subcommand (with_subcommand (with_subcommand lists_added pack_app.top) list_app.top) split_app.top
+rhkeys_app = with_subcommand (with_subcommand (with_subcommand (with_subcommand lists_added check_app.top) pack_app.top) list_app.top) split_app.top
 
 abbrev pub HasSplitArguments : List Row → Type 0
 HasSplitArguments rows = HasNumber (codes "parts") 0 MAX_PARTS rows × HasText (codes "name") rows × HasSkip rows
@@ -62,13 +66,14 @@ HasSplitArguments rows = HasNumber (codes "parts") 0 MAX_PARTS rows × HasText (
 abbrev pub IsKeysCommand : Text → List Row → Type 0
 IsKeysCommand name rows =
     ((how : Combination) × (name ≡ name_of how) × HasListArguments rows)
-    ⊎ (((name ≡ codes "pack") × HasSkip rows) ⊎ ((name ≡ codes "list") ⊎ ((name ≡ codes "split") × HasSplitArguments rows)))
+    ⊎ (((name ≡ codes "check") × HasSkip rows) ⊎ (((name ≡ codes "pack") × HasSkip rows) ⊎ ((name ≡ codes "list") ⊎ ((name ≡ codes "split") × HasSplitArguments rows))))
 
 -- the line is the command, with what was found for it
 abbrev pub SaysKeys : Text → List Row → Line → Type 0
 SaysKeys name rows (Combine how workers count packed skip files) =
     (name ≡ name_of how) × GivesNumber (codes "workers") 0 MAX_WORKERS rows workers × (IsTrue count ↔ IsGiven (codes "count") rows)
     × (IsTrue packed ↔ IsGiven (codes "packed") rows) × GivesSkip rows skip × GivesAll (codes "file") rows files.items
+SaysKeys name rows (Check skip files) = (name ≡ codes "check") × GivesSkip rows skip × GivesAll (codes "file") rows files.items
 SaysKeys name rows (Pack skip files) = (name ≡ codes "pack") × GivesSkip rows skip × GivesAll (codes "file") rows files.items
 SaysKeys name rows (Listing snapshot files) =
     (name ≡ codes "list") × (IsTrue snapshot ↔ IsGiven (codes "snapshot") rows) × GivesAll (codes "file") rows files.items

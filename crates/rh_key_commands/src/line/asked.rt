@@ -26,6 +26,12 @@ pub enum Line {
         skip: usize,
         files: Vec<String>,
     },
+    /// Tell of each of these files in turn which lines of it are bad, and what its numbers are. None
+    /// stands for standard input.
+    Check {
+        skip: usize,
+        files: Vec<String>,
+    },
     /// Write the key file of the numbers in this file: one at the most, and none stands for
     /// standard input.
     Pack {

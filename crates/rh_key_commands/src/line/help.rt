@@ -103,6 +103,34 @@ The lists are held in memory: at most 24 bytes for each number of all lists, 32 
 each worker. Larger ones are split first: see `rhkeys split --help`. On a terminal, work of more
 than a second tells how far it is, on a line that is gone before a number is written.";
 
+/// The command `check`, in a line.
+pub const CHECK: &str = "Tells every bad line of lists, and what their numbers are";
+
+/// The command `check`, on `rhkeys check --help` alone.
+pub const CHECK_AT_LENGTH: &str = "\
+Reads lists of numbers to their ends, whatever stands in them, and writes for each in turn its bad
+lines, and how many numbers the good ones say, how many different ones, the least and the greatest.
+
+Example:
+  rhkeys check spring.txt ids.csv";
+
+/// The argument FILE of the command `check`.
+pub const CHECK_FILES: &str = "Texts of numbers or key files; - or none: standard input";
+
+/// What `check` reads and writes.
+pub const CHECK_FORMATS: &str = "\
+A FILE is a text of numbers, or a key file of either version, as `rhkeys union` reads it: see
+`rhkeys union --help`. Of a text each bad line is told with its number and its first 40 bytes, up to
+20 of them, and then how many more there are:
+  ids.csv: line 1: not a number from 0 to 4611686018427387902: \"customer_id\"
+  ids.csv: 17 more bad lines
+  ids.csv: 100 numbers, 90 different, from 3 to 77
+
+A list that cannot be read, or a key file that is refused, is told on standard error, and those
+behind it are checked all the same. The exit status is 1 where any list has a bad line or is told
+so. One list at a time is held in memory: at most 24 bytes for each of its numbers, and 8 MB for
+each worker, of which there are as many as processors.";
+
 /// The command `pack`, in a line.
 pub const PACK: &str = "Writes the key file of the numbers of a text";
 

@@ -5,7 +5,7 @@ ghost use Rattle.clap.specs.Words.{app_of, fault_of, found_of, rows_of};
 ghost use Rattle.clap.specs.Words.{subcommand_of, subcommand_rows_of};
 ghost use Rattle.rh_arguments.specs.Faults.{IsOneOf};
 ghost use Rattle.rh_key_commands.specs.Line.{AsksKeys, HasSplitArguments, IsKeysCommand, SaysKeys};
-ghost use Rattle.rh_key_commands.specs.Line.{file_rule, files_rule, list_app, lists_added, pack_app, parts_rule};
+ghost use Rattle.rh_key_commands.specs.Line.{check_app, file_rule, files_rule, list_app, lists_added, pack_app, parts_rule};
 ghost use Rattle.rh_key_commands.specs.Line.{named_split, rhkeys_app, split_app};
 ghost use Rattle.rh_key_commands.specs.Skip.{HasSkip};
 ghost use Rattle.rh_arguments.specs.Words.{Finds, IsArg, program_app, texts_of};
@@ -47,11 +47,21 @@ fn line_in(alloc: Global, matches: &ArgMatches<'_>) -> Result<Line, AllocError>
         Some(("union", given)) => lists_asked(alloc, Combination::Union, given),
         Some(("subtract", given)) => lists_asked(alloc, Combination::Subtract, given),
         Some(("xor", given)) => lists_asked(alloc, Combination::Xor, given),
+        Some(("check", given)) => check_asked(alloc, given),
         Some(("pack", given)) => pack_asked(alloc, given),
         Some(("list", given)) => list_asked(alloc, given),
         Some(("split", given)) => split_asked(alloc, given),
         _ => unreachable!(),
     }
+}
+
+fn check_asked(alloc: Global, given: &ArgMatches<'_>) -> Result<Line, AllocError>
+    requires { HasSkip (rows_of (found_of given.now)) }
+    ensures { IfOk result (λ l. SaysKeys (codes "check") (rows_of (found_of given.now)) l) }
+{
+    let skip = skip_asked(given);
+    let files = texts(alloc, given, "file")?;
+    Ok(Line::Check { skip, files })
 }
 
 fn pack_asked(alloc: Global, given: &ArgMatches<'_>) -> Result<Line, AllocError>
@@ -102,7 +112,8 @@ fn command<'a>(alloc: Global) -> Result<Command<'a>, AllocError>
         help::STATUSES,
     );
     let with_lists = lists_added(alloc, program);
-    let with_pack = with_subcommand(with_lists, pack_command(alloc));
+    let with_check = with_subcommand(with_lists, check_command(alloc));
+    let with_pack = with_subcommand(with_check, pack_command(alloc));
     let with_list = with_subcommand(with_pack, list_command(alloc));
     with_subcommand(with_list, split_command(alloc))
 }
@@ -123,6 +134,20 @@ fn lists_added<'a>(
     let with_union = with_subcommand(with_intersect, union);
     let with_subtract = with_subcommand(with_union, subtract);
     with_subcommand(with_subtract, xor)
+}
+
+fn check_command<'a>(alloc: Global) -> Result<Command<'a>, AllocError>
+    ensures { IfOk result (λ c. app_of c ≡ check_app) }
+{
+    describe(
+        alloc,
+        "check",
+        help::CHECK,
+        help::CHECK_AT_LENGTH,
+        help::CHECK_FORMATS,
+    )
+    .arg(files_arg(alloc, help::CHECK_FILES))?
+    .arg(skip_arg(alloc))
 }
 
 fn pack_command<'a>(alloc: Global) -> Result<Command<'a>, AllocError>
@@ -150,7 +175,7 @@ fn list_command<'a>(alloc: Global) -> Result<Command<'a>, AllocError>
         help::LIST_FORMATS,
     )
     .arg(flag_arg(alloc, "snapshot", help::SNAPSHOT))?
-    .arg(files_arg(alloc))
+    .arg(files_arg(alloc, help::FILES))
 }
 
 fn split_command<'a>(alloc: Global) -> Result<Command<'a>, AllocError>
@@ -199,11 +224,11 @@ fn file_arg<'a>(alloc: Global) -> Arg<'a>
         .help(help::FILE)
 }
 
-fn files_arg<'a>(alloc: Global) -> Arg<'a>
+fn files_arg<'a>(alloc: Global, help: &'a str) -> Arg<'a>
     ensures { IsArg files_rule result }
 {
     Arg::new(alloc, "file")
         .value_name("FILE")
         .action(ArgAction::Append)
-        .help(help::FILES)
+        .help(help)
 }

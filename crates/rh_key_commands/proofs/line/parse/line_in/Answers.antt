@@ -17,9 +17,10 @@ unreachable-requires c =
         | inl (Union, is, workers) ↦ grind (arith, named.1, is, w.in_default.is)
         | inl (Subtract, is, workers) ↦ grind (arith, named.1, is, w.in_default.is)
         | inl (Xor, is, workers) ↦ grind (arith, named.1, is, w.in_default.is)
-        | inr (inl pack) ↦ grind (arith, named.1, pack.0, w.in_default.is)
-        | inr (inr (inl list)) ↦ grind (arith, named.1, list, w.in_default.is)
-        | inr (inr (inr split)) ↦ grind (arith, named.1, split.0, w.in_default.is)
+        | inr (inl check) ↦ grind (arith, named.1, check.0, w.in_default.is)
+        | inr (inr (inl pack)) ↦ grind (arith, named.1, pack.0, w.in_default.is)
+        | inr (inr (inr (inl list))) ↦ grind (arith, named.1, list, w.in_default.is)
+        | inr (inr (inr (inr split))) ↦ grind (arith, named.1, split.0, w.in_default.is)
       ]
       | in_default-via-in_default w ↦ grind (arith, named.1, w.in_default.is)
     ]
