@@ -2,14 +2,14 @@
 use Rattle.std.proofs.Common.{◌≡◌, ℕ, ◌+◌, List, [], ◌∷◌, ◌++◌, Some, None, inl, inr, refl, sym, ap, ◌∙◌, append_assoc, append-nil}
 use Rattle.std.specs.Prelude.{nat_eq, nat_lt}
 use Rattle.std.specs.List.{fold}
-use Rattle.std.proofs.lemmas.Bool.{cases_Bool}
+use Rattle.std.proofs.lemmas.Bool.{cases_Bool, ne_eqb}
 use Rattle.std.proofs.lemmas.Grind.{fold-append}
 use Rattle.rh_layout.specs.declared.limits.TheConstants.{MAX_KEY}
 use Rattle.rh_numbers.specs.declared.fault.TextFault.{TextFault}
 use Rattle.rh_numbers.specs.declared.line_so_far.LineSoFar.{LineSoFar}
 use Rattle.rh_numbers.specs.declared.line_so_far.LineSoFar.TheVariants.{Head, MarkOne, MarkTwo, Start, Blank, Comment, Number, After, Return, Other}
-use Rattle.rh_numbers.specs.Grammar.{without_mark}
-use Rattle.rh_numbers.specs.Reading.{◌>>=◌, Said, next, said_from, text_said, with_key, with_line}
+use Rattle.rh_numbers.specs.Grammar.{IsOneLine, without_mark}
+use Rattle.rh_numbers.specs.Reading.{◌>>=◌, Said, lines_said, next, said_from, text_said, with_key, with_line}
 use Rattle.rh_numbers.proofs.Head.{mark_passed}
 use Rattle.rh_checks.specs.Lines.{Bad, bad_in, bad_lines, bad_of, good_numbers, line_said, lines_of, numbers_in, numbers_of, text_lines, with_front}
 use Rattle.rh_checks.proofs.Walks.{fronts, no_front}
@@ -70,6 +70,15 @@ bytes_up keys number front (b ∷ bytes) =
 text_up : (text : List ℕ) → text_said text ≡ lines_up [] 1 (lines_of text)
 text_up text = mark_passed text ∙ bytes_up [] 1 [] (without_mark text) ∙ ap (lines_up [] 1) (no_front (without_mark text))
 
+-- ---- a line alone
+
+one_line : (line : List ℕ) → IsOneLine line → text_lines line ≡ line ∷ []
+one_line [] one = refl
+one_line (b ∷ bytes) one = rw (ne_eqb b 10 one.0) (ap (with_front (b ∷ [])) (one_line bytes one.1))
+
+pub said_alone : (line : List ℕ) → IsOneLine line → lines_said line ≡ line_said 1 line
+said_alone line one = bytes_up [] 1 [] line ∙ ap (lines_up [] 1) (no_front line ∙ one_line line one) ∙ sym (nothing_more (line_said 1 line))
+
 -- ---- the first bad line
 
 no_bad : (bad : Bad) (others : List Bad) → bad ∷ others ≡ [] → ⊥
@@ -112,11 +121,11 @@ one_bad keys number (line ∷ lines) bad others is = by_line (line_said number l
 
 -- ---- a text
 
-pub good_text : (text : List ℕ) → bad_lines text ≡ [] → text_said text ≡ (good_numbers text, None)
-good_text text none = text_up text ∙ all_good [] 1 (lines_of text) none
+pub good_said : (text : List ℕ) → bad_lines text ≡ [] → text_said text ≡ (good_numbers text, None)
+good_said text none = text_up text ∙ all_good [] 1 (lines_of text) none
 
-pub bad_text : (text : List ℕ) (bad : Bad) (others : List Bad) → bad_lines text ≡ bad ∷ others → (keys : List ℕ) × (text_said text ≡ (keys, Some bad.0))
-bad_text text bad others is =
+pub bad_said : (text : List ℕ) (bad : Bad) (others : List Bad) → bad_lines text ≡ bad ∷ others → (keys : List ℕ) × (text_said text ≡ (keys, Some bad.0))
+bad_said text bad others is =
     let told = one_bad [] 1 (lines_of text) bad others is in
     (told.0, text_up text ∙ told.1)
 
@@ -129,9 +138,9 @@ refused keys fault = (keys, Some fault)
 no_fault : (keys told : List ℕ) (fault : TextFault) → all_taken keys ≡ refused told fault → ⊥
 no_fault keys told fault h = let bad = ap (λ (s : Said). s.1) h in cc
 
-pub taken_text : (text keys : List ℕ) → text_said text ≡ (keys, None) → bad_lines text ≡ []
-taken_text text keys taken = by_bad (bad_lines text) refl
+pub taken_said : (text keys : List ℕ) → text_said text ≡ (keys, None) → bad_lines text ≡ []
+taken_said text keys taken = by_bad (bad_lines text) refl
   where
     by_bad : (bads : List Bad) → bad_lines text ≡ bads → bad_lines text ≡ []
     by_bad [] is = is
-    by_bad (bad ∷ others) is = let told = bad_text text bad others is in absurd (no_fault keys told.0 bad.0 (sym taken ∙ told.1))
+    by_bad (bad ∷ others) is = let told = bad_said text bad others is in absurd (no_fault keys told.0 bad.0 (sym taken ∙ told.1))

@@ -11,13 +11,13 @@ use Rattle.rh_numbers.specs.Excerpt.{shown, without_return}
 use Rattle.rh_numbers.specs.Reading.{Said, next}
 use Rattle.rh_numbers.proofs.Excerpts.{first_bytes, same_shown}
 use Rattle.rh_checks.specs.declared.limits.TheConstants.{SHOWN_LINES}
-use Rattle.rh_checks.specs.Lines.{Bad, Tally, bad_in, bad_of, line_said, numbers_in, numbers_of, tally, text_lines, with_front}
-use Rattle.rh_checks.specs.Walk.{tally_from, with_bad, with_said}
+use Rattle.rh_checks.specs.Lines.{Bad, Findings, bad_in, bad_of, line_said, numbers_in, numbers_of, findings, text_lines, with_front}
+use Rattle.rh_checks.specs.Walk.{findings_from, with_bad, with_said}
 
 -- ---- one more line
 
 -- one more bad line, where so many are kept
-one_more : (numbers : List ℕ) (bads : List Bad) (bad : Bad) → with_bad (tally numbers bads) bad ≡ tally numbers (bads ++ bad ∷ [])
+one_more : (numbers : List ℕ) (bads : List Bad) (bad : Bad) → with_bad (findings numbers bads) bad ≡ findings numbers (bads ++ bad ∷ [])
 one_more numbers bads bad =
     elim (cases_lt (length bads) SHOWN_LINES) [
       | inl few ↦
@@ -39,11 +39,11 @@ shown_whole line = same_shown (without_return (take HELD_BYTES line)) (without_r
 
 -- one more line, whatever it says
 said_more : (numbers : List ℕ) (bads : List Bad) (said : Said) (line : List ℕ)
-    → with_said (tally numbers bads) said (shown (without_return (take HELD_BYTES line))) ≡ tally (numbers ++ numbers_in said) (bads ++ bad_in said line)
-said_more numbers bads (keys, None) line = ap (λ l. tally (numbers ++ keys) l) (sym (append-nil bads))
+    → with_said (findings numbers bads) said (shown (without_return (take HELD_BYTES line))) ≡ findings (numbers ++ numbers_in said) (bads ++ bad_in said line)
+said_more numbers bads (keys, None) line = ap (λ l. findings (numbers ++ keys) l) (sym (append-nil bads))
 said_more numbers bads (keys, Some fault) line =
-    ap (λ text. with_bad (tally numbers bads) (fault, text)) (shown_whole line) ∙ one_more numbers bads (fault, shown (without_return line))
-    ∙ ap (λ l. tally l (bads ++ (fault, shown (without_return line)) ∷ [])) (sym (append-nil numbers))
+    ap (λ text. with_bad (findings numbers bads) (fault, text)) (shown_whole line) ∙ one_more numbers bads (fault, shown (without_return line))
+    ∙ ap (λ l. findings l (bads ++ (fault, shown (without_return line)) ∷ [])) (sym (append-nil numbers))
 
 -- ---- bytes and lines
 
@@ -65,35 +65,35 @@ held_more front b = take_front HELD_BYTES front (b ∷ [])
     take_front (suc n) [] ys = refl
     take_front (suc n) (x ∷ xs) ys = ap (λ l. x ∷ l) (take_front n xs ys)
 
--- the tally of lines, behind what was found before them
-abbrev pub after : (numbers : List ℕ) (bads : List Bad) (number : ℕ) → List (List ℕ) → Tally
-after numbers bads number lines = tally (numbers ++ numbers_of number lines) (bads ++ bad_of number lines)
+-- the findings of lines, behind what was found before them
+abbrev pub after : (numbers : List ℕ) (bads : List Bad) (number : ℕ) → List (List ℕ) → Findings
+after numbers bads number lines = findings (numbers ++ numbers_of number lines) (bads ++ bad_of number lines)
 
 -- the first of some lines, and then the others
-first_line : (numbers : List ℕ) (bads : List Bad) (number : ℕ) (line : List ℕ) (lines : List (List ℕ))
+first_of_lines : (numbers : List ℕ) (bads : List Bad) (number : ℕ) (line : List ℕ) (lines : List (List ℕ))
     → after (numbers ++ numbers_in (line_said number line)) (bads ++ bad_in (line_said number line) line) (number + 1) lines ≡ after numbers bads number (line ∷ lines)
-first_line numbers bads number line lines = λ i. tally (append_assoc numbers (numbers_in (line_said number line)) (numbers_of (number + 1) lines) i) (append_assoc bads (bad_in (line_said number line) line) (bad_of (number + 1) lines) i)
+first_of_lines numbers bads number line lines = λ i. findings (append_assoc numbers (numbers_in (line_said number line)) (numbers_of (number + 1) lines) i) (append_assoc bads (bad_in (line_said number line) line) (bad_of (number + 1) lines) i)
 
 -- where these bytes of a line came, and then come these
 pub walked : (numbers : List ℕ) (bads : List Bad) (number : ℕ) (front bytes : List ℕ)
-    → tally_from (tally numbers bads) number (fold next Start front) (take HELD_BYTES front) bytes ≡ after numbers bads number (with_front front (text_lines bytes))
-unfolding tally_from
+    → findings_from (findings numbers bads) number (fold next Start front) (take HELD_BYTES front) bytes ≡ after numbers bads number (with_front front (text_lines bytes))
+unfolding findings_from
 walked numbers bads number front [] =
     said_more numbers bads (line_said number front) front
-    ∙ (λ i. tally (numbers ++ sym (append-nil (numbers_in (line_said number front))) i) (bads ++ sym (append-nil (bad_in (line_said number front) front)) i))
+    ∙ (λ i. findings (numbers ++ sym (append-nil (numbers_in (line_said number front))) i) (bads ++ sym (append-nil (bad_in (line_said number front) front)) i))
     ∙ ap (λ l. after numbers bads number (l ∷ [])) (sym (append-nil front))
 walked numbers bads number front (b ∷ bytes) =
     elim (cases_Bool (nat_eq b 10)) [
       | inl t ↦
           let said = line_said number front in
-          rw t (ap (λ (y : Tally). tally_from y (number + 1) Start [] bytes) (said_more numbers bads said front)
+          rw t (ap (λ (y : Findings). findings_from y (number + 1) Start [] bytes) (said_more numbers bads said front)
           ∙ walked (numbers ++ numbers_in said) (bads ++ bad_in said front) (number + 1) [] bytes
           ∙ ap (after (numbers ++ numbers_in said) (bads ++ bad_in said front) (number + 1)) (no_front bytes)
-          ∙ first_line numbers bads number front (text_lines bytes)
+          ∙ first_of_lines numbers bads number front (text_lines bytes)
           ∙ ap (λ l. after numbers bads number (l ∷ text_lines bytes)) (sym (append-nil front)))
       | inr f ↦
           let so_far : next (fold next Start front) b ≡ fold next Start (front ++ b ∷ []) = sym (fold-append next Start front (b ∷ [])) in
-          rw f ((λ i. tally_from (tally numbers bads) number (so_far i) (held_more front b i) bytes)
+          rw f ((λ i. findings_from (findings numbers bads) number (so_far i) (held_more front b i) bytes)
           ∙ walked numbers bads number (front ++ b ∷ []) bytes
           ∙ ap (after numbers bads number) (sym (fronts front (b ∷ []) (text_lines bytes))))
     ]

@@ -13,14 +13,14 @@ use Rattle.rh_numbers.specs.declared.limits.TheConstants.{MAX_BYTES}
 use Rattle.rh_checks.specs.declared.fault.CheckFault.{CheckFault}
 use Rattle.rh_checks.specs.declared.fault.CheckFault.TheVariants as checks
 use Rattle.rh_checks.specs.declared.report.Report.{Report}
-use Rattle.rh_checks.specs.Lines.{Tally}
-use Rattle.rh_checks.specs.Lists.{list_tally}
+use Rattle.rh_checks.specs.Lines.{Findings}
+use Rattle.rh_checks.specs.Lists.{list_findings}
 use Rattle.rh_checks.specs.Sums.{AreSums}
 use Rattle.rh_checks.specs.Texts.{report_text}
 use Rattle.rh_checks.specs.Walk.{shown_as}
 
 -- the report is of this
-pub record IsReportOf (t : Tally) (report : Report) : Type 0 where
+pub record IsReportOf (t : Findings) (report : Report) : Type 0 where
   pub shown : map shown_as report.bad.items ≡ t.shown
   pub more : report.more ≡ t.more
   pub sums : AreSums t.numbers report.sums
@@ -29,9 +29,9 @@ pub record IsReportOf (t : Tally) (report : Report) : Type 0 where
 -- want of memory and a text of too many bytes say nothing of the bytes.
 abbrev pub ChecksList : Option (List ℕ) → Option (List ℕ) → Result Report ListFault → Type 0
 ChecksList None new r = Unit {0}
-ChecksList (Some bytes) new (Err fault) = Fails is_list_silent fault (list_tally bytes)
+ChecksList (Some bytes) new (Err fault) = Fails is_list_silent fault (list_findings bytes)
 ChecksList (Some bytes) None (Ok report) = ⊥
-ChecksList (Some bytes) (Some rest) (Ok report) = (t : Tally) × (list_tally bytes ≡ Ok (t, rest)) × IsReportOf t report
+ChecksList (Some bytes) (Some rest) (Ok report) = (t : Findings) × (list_findings bytes ≡ Ok (t, rest)) × IsReportOf t report
 
 -- What is answered of the list that this reader gives. A failed read is told only where one failed, and that a text is too long only of so
 -- many bytes.
@@ -49,15 +49,15 @@ abbrev pub WritesReport : (place : List ℕ) → (bytes left : Option (List ℕ)
 WritesReport place bytes left Written = (report : Report) × ChecksList bytes left (Ok report) × Written report (report_text place report)
 
 -- The report was written, or a front of it; or the list has this fault, or memory was wanting, and nothing was written.
-abbrev pub Tells : (place : List ℕ) → (bytes left old new : Option (List ℕ)) → Result Bool CheckFault → Type 0
-Tells place bytes left old new (Ok good) = WritesReport place bytes left (λ report text. Appends old new text × (IsTrue good ↔ (report.bad.items ≡ [])))
-Tells place bytes left old new (Err (checks.List fault)) = ChecksList bytes left (Err fault) × (new ≡ old)
-Tells place bytes left old new (Err checks.Write) = WritesReport place bytes left (λ report text. AppendsFront old new text)
-Tells place bytes left old new (Err checks.Memory) = new ≡ old
+abbrev pub TellsReport : (place : List ℕ) → (bytes left old new : Option (List ℕ)) → Result Bool CheckFault → Type 0
+TellsReport place bytes left old new (Ok good) = WritesReport place bytes left (λ report text. Appends old new text × (IsTrue good ↔ (report.bad.items ≡ [])))
+TellsReport place bytes left old new (Err (checks.List fault)) = ChecksList bytes left (Err fault) × (new ≡ old)
+TellsReport place bytes left old new (Err checks.Write) = WritesReport place bytes left (λ report text. AppendsFront old new text)
+TellsReport place bytes left old new (Err checks.Memory) = new ≡ old
 
 -- So by this reader and this writer, of which a failure is counted where a write failed, and else none.
 pub record TellsCheck {R W : Type 0} (place : List ℕ) (remaining : R → Option (List ℕ)) (reader reader_then : Counted R) (contents : W → Option (List ℕ)) (writer writer_then : Counted W) (r : Result Bool CheckFault) : Type 0 where
-  pub told : Tells place (remaining (inner_of reader)) (remaining (inner_of reader_then)) (contents (inner_of writer)) (contents (inner_of writer_then)) r
+  pub told : TellsReport place (remaining (inner_of reader)) (remaining (inner_of reader_then)) (contents (inner_of writer)) (contents (inner_of writer_then)) r
   pub counts : CountsFault checks.Write writer writer_then r
   pub text_read : IsErrOf r (checks.List (Text texts.Read)) → Rose (failures_of reader) (failures_of reader_then)
   pub keys_read : IsErrOf r (checks.List (Keys faults.Read)) → Rose (failures_of reader) (failures_of reader_then)

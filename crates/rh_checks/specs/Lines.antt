@@ -63,13 +63,13 @@ bad_lines text = bad_of 1 (lines_of text)
 -- ---- what is kept of it
 
 -- numbers, the first bad lines, and how many more there are
-pub record Tally : Type 0 where
+pub record Findings : Type 0 where
   pub numbers : List ℕ
   pub shown : List Bad
   pub more : ℕ
 
-abbrev pub tally : List ℕ → List Bad → Tally
-tally numbers bad = record { numbers = numbers; shown = take SHOWN_LINES bad; more = length bad - SHOWN_LINES }
+abbrev pub findings : List ℕ → List Bad → Findings
+findings numbers bad = record { numbers = numbers; shown = take SHOWN_LINES bad; more = length bad - SHOWN_LINES }
 
-abbrev pub text_tally : List ℕ → Tally
-text_tally text = tally (good_numbers text) (bad_lines text)
+abbrev pub text_findings : List ℕ → Findings
+text_findings text = findings (good_numbers text) (bad_lines text)

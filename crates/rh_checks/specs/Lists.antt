@@ -15,40 +15,40 @@ use Rattle.rh_lists.specs.declared.fault.ListFault.TheVariants.{Text, Keys}
 use Rattle.rh_lists.specs.Lists.{HasBytes, is_list_silent, is_text_silent}
 use Rattle.rh_pieces.specs.Pieces.{keys_in}
 use Rattle.rh_checks.specs.declared.found.Found.{Found}
-use Rattle.rh_checks.specs.Lines.{Tally, tally, text_tally}
+use Rattle.rh_checks.specs.Lines.{Findings, findings, text_findings}
 use Rattle.rh_checks.specs.Walk.{shown_as}
 
 -- ---- bytes
 
 -- of a key file its keys, and no line is bad; or its first fault
-abbrev pub of_file : Result (List ℕ × List ℕ) KeyFault → Result (Tally × List ℕ) ListFault
-of_file (Ok keys) = Ok (tally keys.0 [], keys.1)
-of_file (Err fault) = Err (Keys fault)
+abbrev pub found_in_file : Result (List ℕ × List ℕ) KeyFault → Result (Findings × List ℕ) ListFault
+found_in_file (Ok keys) = Ok (findings keys.0 [], keys.1)
+found_in_file (Err fault) = Err (Keys fault)
 
 -- what begins with the magic of a version is a key file, and anything else a text
-abbrev pub file_or_text : List ℕ → Result (Version × List ℕ) KeyFault → Result (Tally × List ℕ) ListFault
-file_or_text bytes (Ok begun) = of_file (long_file_keys bytes)
-file_or_text bytes (Err other) = Ok (text_tally bytes, [])
+abbrev pub found_by_head : List ℕ → Result (Version × List ℕ) KeyFault → Result (Findings × List ℕ) ListFault
+found_by_head bytes (Ok begun) = found_in_file (long_file_keys bytes)
+found_by_head bytes (Err other) = Ok (text_findings bytes, [])
 
 -- what is in a list, and none of its bytes left; or why it is no key file
-abbrev pub list_tally : List ℕ → Result (Tally × List ℕ) ListFault
-list_tally bytes = file_or_text bytes (version_at bytes)
+abbrev pub list_findings : List ℕ → Result (Findings × List ℕ) ListFault
+list_findings bytes = found_by_head bytes (version_at bytes)
 
 -- ---- in the code
 
-abbrev pub found_tally : Found → Tally
-found_tally found = record { numbers = keys_in found.keys; shown = map shown_as found.bad.items; more = found.more }
+abbrev pub findings_in : Found → Findings
+findings_in found = record { numbers = keys_in found.keys; shown = map shown_as found.bad.items; more = found.more }
 
 -- Where the bytes are known, what was found is in the text of these bytes and all of them, and none is left.
 abbrev pub FindsText : (begun : List ℕ) → Option (List ℕ) → Option (List ℕ) → Result Found TextFault → Type 0
 FindsText begun None new r = Unit {0}
 FindsText begun (Some bytes) new (Err fault) = Unit {0}
 FindsText begun (Some bytes) None (Ok found) = ⊥
-FindsText begun (Some bytes) (Some rest) (Ok found) = (found_tally found ≡ text_tally (begun ++ bytes)) × (rest ≡ [])
+FindsText begun (Some bytes) (Some rest) (Ok found) = (findings_in found ≡ text_findings (begun ++ bytes)) × (rest ≡ [])
 
 -- What is answered of a text that begins so, and whose rest this reader gives. No bad line is a fault: only a failed read is one, want of
 -- memory, and a text of too many bytes.
-pub record AnswersText {R : Type 0} (remaining : R → Option (List ℕ)) (begun : List ℕ) (old new : Counted R) (r : Result Found TextFault) : Type 0 where
+pub record AnswersWalk {R : Type 0} (remaining : R → Option (List ℕ)) (begun : List ℕ) (old new : Counted R) (r : Result Found TextFault) : Type 0 where
   pub known : FindsText begun (remaining (inner_of old)) (remaining (inner_of new)) r
   pub silent : IfErr r (λ fault. is_text_silent fault ≡ true)
   pub counts : Counts (IsErrOf r texts.Read) (IsOk r) old new
@@ -56,8 +56,8 @@ pub record AnswersText {R : Type 0} (remaining : R → Option (List ℕ)) (begun
 
 -- What is answered of the list that this reader gives: what is in it, or the first fault of a key file. A failed read is told only where
 -- one failed, and that a text is too long only of so many bytes.
-pub record AnswersList {R : Type 0} (remaining : R → Option (List ℕ)) (old new : Counted R) (r : Result Found ListFault) : Type 0 where
-  pub known : Reads is_list_silent (remaining (inner_of old)) (remaining (inner_of new)) list_tally found_tally r
+pub record AnswersFound {R : Type 0} (remaining : R → Option (List ℕ)) (old new : Counted R) (r : Result Found ListFault) : Type 0 where
+  pub known : Reads is_list_silent (remaining (inner_of old)) (remaining (inner_of new)) list_findings findings_in r
   pub text_read : IsErrOf r (Text texts.Read) → Rose (failures_of old) (failures_of new)
   pub keys_read : IsErrOf r (Keys faults.Read) → Rose (failures_of old) (failures_of new)
   pub long : IsErrOf r (Text texts.TooLong) → HasBytes MAX_BYTES (remaining (inner_of old))

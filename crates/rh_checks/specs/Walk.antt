@@ -9,41 +9,41 @@ use Rattle.rh_numbers.specs.declared.line_so_far.LineSoFar.TheVariants.{Start}
 use Rattle.rh_checks.specs.declared.found.ShownLine.{ShownLine}
 use Rattle.rh_checks.specs.declared.limits.TheConstants.{SHOWN_LINES}
 use Rattle.rh_checks.specs.declared.walk.Walk.{Walk}
-use Rattle.rh_checks.specs.Lines.{Bad, Tally}
+use Rattle.rh_checks.specs.Lines.{Bad, Findings}
 
 -- ---- the end of a line
 
 -- another bad line: one of the first, or one more
-abbrev pub with_bad : Tally → Bad → Tally
+abbrev pub with_bad : Findings → Bad → Findings
 with_bad t bad =
     if nat_lt (length t.shown) SHOWN_LINES then record t { shown = t.shown ++ bad ∷ [] }
     else record t { more = t.more + 1 }
 
 -- a line that says this, and is shown so
-abbrev pub with_said : Tally → Said → (text : List ℕ) → Tally
+abbrev pub with_said : Findings → Said → (text : List ℕ) → Findings
 with_said t (keys, None) text = record t { numbers = t.numbers ++ keys }
 with_said t (keys, Some fault) text = with_bad t (fault, text)
 
 -- a line that has said this so far, of which these bytes are held, ends here
-abbrev pub line_ends : Tally → (line : ℕ) → LineSoFar → (held : List ℕ) → Tally
+abbrev pub line_ends : Findings → (line : ℕ) → LineSoFar → (held : List ℕ) → Findings
 line_ends t line so_far held = with_said t (with_line [] line so_far) (shown (without_return held))
 
 -- ---- the bytes
 
-unfoldable pub tally_from : Tally → (line : ℕ) → LineSoFar → (held : List ℕ) → List ℕ → Tally
-tally_from t line so_far held [] = line_ends t line so_far held
-tally_from t line so_far held (b ∷ bytes) =
-    if b == 10 then tally_from (line_ends t line so_far held) (line + 1) Start [] bytes
-    else tally_from t line (next so_far b) (take HELD_BYTES (held ++ b ∷ [])) bytes
+unfoldable pub findings_from : Findings → (line : ℕ) → LineSoFar → (held : List ℕ) → List ℕ → Findings
+findings_from t line so_far held [] = line_ends t line so_far held
+findings_from t line so_far held (b ∷ bytes) =
+    if b == 10 then findings_from (line_ends t line so_far held) (line + 1) Start [] bytes
+    else findings_from t line (next so_far b) (take HELD_BYTES (held ++ b ∷ [])) bytes
 
 -- ---- in the code
 
 abbrev pub shown_as : ShownLine → Bad
 shown_as line = (in_line line.line line.bad, shown (held_by line.text))
 
-abbrev pub tally_so_far : Walk → Tally
-tally_so_far walk = record { numbers = walk.keys.items; shown = map shown_as walk.bad.items; more = walk.more }
+abbrev pub findings_so_far : Walk → Findings
+findings_so_far walk = record { numbers = walk.keys.items; shown = map shown_as walk.bad.items; more = walk.more }
 
 -- what is found where these bytes come next
-abbrev pub tally_on : Walk → List ℕ → Tally
-tally_on walk rest = tally_from (tally_so_far walk) walk.line walk.so_far (held_by walk.text) rest
+abbrev pub findings_on : Walk → List ℕ → Findings
+findings_on walk rest = findings_from (findings_so_far walk) walk.line walk.so_far (held_by walk.text) rest

@@ -1,6 +1,6 @@
 //! A list, looked through from its bytes.
 
-ghost use Rattle.rh_checks.specs.Lists.{AnswersList};
+ghost use Rattle.rh_checks.specs.Lists.{AnswersFound};
 
 use crate::found::Found;
 use crate::text::{find_short_text, find_text};
@@ -25,7 +25,7 @@ pub(crate) fn find_list<R: Read, P: Progress>(
     reader: &mut Counted<R>,
     progress: &mut P,
 ) -> Result<Found, ListFault>
-    ensures { AnswersList R.remaining reader.old reader.new result }
+    ensures { AnswersFound R.remaining reader.old reader.new result }
 {
     let mut four = [0; MAGIC_BYTES];
     let Filled { count, failed } = fill_front(reader, &mut four);

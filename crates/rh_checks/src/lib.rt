@@ -19,7 +19,8 @@
 //! - `tell_list`: that text was written, or a front of it where the writer failed; where the list has
 //!   a fault, nothing was written. It answers whether no line is bad.
 //! - `same_first_fault`: a text has no bad line exactly where `text_said` of `rh_numbers` has no
-//!   fault, and else the first one is that fault.
+//!   fault, and else the first one is that fault. What a line says by itself is what is read of it
+//!   alone.
 //! - `fixed_numbers`: 20 bad lines are shown.
 //!
 //! Memory: 8 bytes for each number, twice that while they grow, and 24 while they are counted.

@@ -2,8 +2,8 @@
 
 ghost use Rattle.std.specs.Prelude.{◌≡◌, ◌≤◌, ◌<◌, ◌+◌, ◌^◌, IfOk, length};
 ghost use Rattle.rh_numbers.specs.declared.limits.TheConstants.{PART_BYTES};
-ghost use Rattle.rh_checks.specs.Lines.{text_tally};
-ghost use Rattle.rh_checks.specs.Lists.{AnswersText, found_tally};
+ghost use Rattle.rh_checks.specs.Lines.{text_findings};
+ghost use Rattle.rh_checks.specs.Lists.{AnswersWalk, findings_in};
 
 use crate::found::Found;
 use crate::walk::Walk;
@@ -15,7 +15,7 @@ use std::io::Read;
 /// What is found in a whole text that is held in memory.
 pub(crate) fn find_short_text(alloc: Global, bytes: &[u8]) -> Result<Found, AllocError>
     requires { length bytes.now + 1 < 2 ^ 64 }
-    ensures { IfOk result (λ found. found_tally found ≡ text_tally bytes.now) }
+    ensures { IfOk result (λ found. findings_in found ≡ text_findings bytes.now) }
 {
     let mut walk = Walk::new(alloc);
     walk.read(behind_mark(bytes))?;
@@ -31,7 +31,7 @@ pub(crate) fn find_text<R: Read, P: Progress>(
     progress: &mut P,
 ) -> Result<Found, TextFault>
     requires { (3 ≤ length begun.now) × (length begun.now ≤ PART_BYTES) }
-    ensures { AnswersText R.remaining begun.now reader.old reader.new result }
+    ensures { AnswersWalk R.remaining begun.now reader.old reader.new result }
 {
     let mut walk = Walk::new(alloc);
     walk.read(behind_mark(begun))?;

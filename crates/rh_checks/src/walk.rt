@@ -30,13 +30,13 @@ impl Walk {
     ghost use Rattle.rh_numbers.specs.Chunks.{in_line};
     ghost use Rattle.rh_numbers.specs.Excerpt.{held_by, shown, without_return};
     ghost use Rattle.rh_numbers.specs.declared.line_so_far.LineSoFar.TheVariants.{Start};
-    ghost use Rattle.rh_checks.specs.Lists.{found_tally};
-    ghost use Rattle.rh_checks.specs.Walk.{line_ends, tally_from, tally_on, tally_so_far, with_bad};
-    ghost use Rattle.rh_checks.specs.Lines.{tally};
+    ghost use Rattle.rh_checks.specs.Lists.{findings_in};
+    ghost use Rattle.rh_checks.specs.Walk.{line_ends, findings_from, findings_on, findings_so_far, with_bad};
+    ghost use Rattle.rh_checks.specs.Lines.{findings};
 
     /// Nothing was read yet. A byte order mark is no part of the text.
     pub(crate) fn new(alloc: Global) -> Walk
-        ensures on { (rest : List ℕ) → tally_on result rest ≡ tally_from (tally [] []) 1 Start [] rest }
+        ensures on { (rest : List ℕ) → findings_on result rest ≡ findings_from (findings [] []) 1 Start [] rest }
         ensures line { result.line ≡ 1 }
         ensures few { result.more ≡ 0 }
     {
@@ -57,7 +57,7 @@ impl Walk {
         ensures line { OnOk result (self.new.line ≤ self.old.line + length bytes.now) }
         ensures few { OnOk result (self.new.more < self.new.line) }
         ensures on { OnOk result ((rest : List ℕ) →
-            tally_on self.old (bytes.now ++ rest) ≡ tally_on self.new rest) }
+            findings_on self.old (bytes.now ++ rest) ≡ findings_on self.new rest) }
     {
         for b in bytes {
             self.step(*b)?;
@@ -66,14 +66,14 @@ impl Walk {
     }
 
     /// Reads the next byte.
-    #[tactic(auto, unfolding(crate::specs::Walk::tally_from))]
+    #[tactic(auto, unfolding(crate::specs::Walk::findings_from))]
     fn step(&mut self, b: u8) -> Result<(), AllocError>
         requires line { self.old.line + 1 < 2 ^ 64 }
         requires few { self.old.more < self.old.line }
         ensures line { OnOk result (self.new.line ≤ self.old.line + 1) }
         ensures few { OnOk result (self.new.more < self.new.line) }
         ensures on { OnOk result ((rest : List ℕ) →
-            tally_on self.old (b ∷ rest) ≡ tally_on self.new rest) }
+            findings_on self.old (b ∷ rest) ≡ findings_on self.new rest) }
     {
         if b == b'\n' {
             self.end_line()?;
@@ -92,8 +92,8 @@ impl Walk {
         requires { self.old.more < self.old.line }
         ensures line { self.new.line ≡ self.old.line }
         ensures few { OnOk result (self.new.more ≤ self.old.more + 1) }
-        ensures ends { OnOk result (tally_so_far self.new
-            ≡ line_ends (tally_so_far self.old) self.old.line self.old.so_far (held_by self.old.text)) }
+        ensures ends { OnOk result (findings_so_far self.new
+            ≡ line_ends (findings_so_far self.old) self.old.line self.old.so_far (held_by self.old.text)) }
     {
         match self.so_far.end() {
             Ok(None) => Ok(()),
@@ -110,7 +110,7 @@ impl Walk {
         requires { self.old.more < self.old.line }
         ensures line { self.new.line ≡ self.old.line }
         ensures few { OnOk result (self.new.more ≤ self.old.more + 1) }
-        ensures takes { OnOk result (tally_so_far self.new ≡ with_bad (tally_so_far self.old)
+        ensures takes { OnOk result (findings_so_far self.new ≡ with_bad (findings_so_far self.old)
             (in_line self.old.line bad, shown (without_return (held_by self.old.text)))) }
     {
         if self.bad.len() >= SHOWN_LINES {
@@ -122,20 +122,21 @@ impl Walk {
         Ok(())
     }
 
-    /// What was found in a text that ends here.
-    #[tactic(auto, unfolding(crate::specs::Walk::tally_from))]
+    /// What was found in a text that ends here. No more memory is kept than its keys take.
+    #[tactic(auto, unfolding(crate::specs::Walk::findings_from))]
     pub(crate) fn end(self, alloc: Global) -> Result<Found, AllocError>
         requires { self.more < self.line }
-        ensures { IfOk result (λ found. found_tally found ≡ tally_on self []) }
+        ensures { IfOk result (λ found. findings_in found ≡ findings_on self []) }
     {
         let mut walk = self;
         walk.end_line()?;
         let Walk {
-            keys: piece,
+            keys: mut piece,
             bad,
             more,
             ..
         } = walk;
+        piece.shrink_to_fit();
         let mut keys = KeyList::new(alloc);
         keys.push(piece)?;
         Ok(Found { keys, bad, more })
