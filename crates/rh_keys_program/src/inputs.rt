@@ -40,7 +40,7 @@ impl Place {
     }
 
     /// The path of the file, where it is not standard input.
-    pub(crate) fn file(&self) -> Option<&str> {
+    pub fn file(&self) -> Option<&str> {
         match self {
             Place::File(path) if path.as_str() != INPUT => Some(path),
             _ => None,

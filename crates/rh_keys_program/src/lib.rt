@@ -16,7 +16,7 @@
 //!   part that is too full it is told how many parts would do, where the size asks for more.
 //! - `workers_of`: as many workers as were asked for, and else at least one and no more than a run
 //!   may have.
-//! - `with_path` and all of these: the very fault is told of what was read, with its path where one
+//! - `with_path`, `told_of_list` and all of these: the very fault is told of what was read, with its path where one
 //!   was named, and a reason that fits; want of memory and a failed write are told by themselves,
 //!   with no path (`specs/Told.antt`).
 //!
@@ -32,7 +32,7 @@ mod streams;
 
 pub use fault::{Fault, Found, InputFault, Place, Reason};
 pub use inputs::is_input_again;
-pub use lists::{bytes_of, times_named, with_path, workers_of};
+pub use lists::{bytes_of, times_named, told_of_list, with_path, workers_of};
 pub use splitting::{plan_streams, split_streams};
 pub use status::{conclude, tell};
 pub use streams::{list_input, list_paths, pack_streams};

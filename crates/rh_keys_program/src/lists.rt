@@ -62,7 +62,8 @@ pub fn with_path(files: &impl Files, mut paths: Vec<String>, fault: CommandFault
     }
 }
 
-fn told_of_list(files: &impl Files, place: Place, fault: FileFault) -> Fault
+/// What is told of this fault of the list that stands there.
+pub fn told_of_list(files: &impl Files, place: Place, fault: FileFault) -> Fault
     ensures { TellsList (path_of place) fault result }
 {
     let fault = match fault {

@@ -2,8 +2,10 @@
 //! snapshots texts.
 #![tactic(auto)]
 
+mod check;
 mod lists;
 
+use check::check_all;
 use lists::{Asked, combine};
 use rh_arguments::LineFault;
 use rh_bytes::Progress;
@@ -63,6 +65,13 @@ where
             };
             progress.expect(bytes_of(rt, &asked.files));
             combine(rt, outlet, asked, progress)
+        }
+        Ok(Line::Check { skip, files }) => {
+            progress.expect(match files.is_empty() {
+                true => Place::Input.size(rt),
+                false => bytes_of(rt, &files),
+            });
+            check_all(rt, outlet, files, skip as u64, progress)
         }
         Ok(Line::Pack { skip, files }) => {
             let place = Place::of(files);
