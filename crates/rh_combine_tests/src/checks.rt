@@ -67,11 +67,13 @@ fn twenty_bad_lines_are_shown(rt: HostRuntime) -> Result<(), Fail> {
     let text = b"x\n17\n".repeat(rt.alloc(), 23)?;
     let report = check_list(&team, &mut Counted::new(text.as_slice()), &mut Nobody);
     let Ok(report) = report else {
-        assert!(rt; false, "no report");
-        return Ok(());
+        return Err("no report".into());
     };
     assert_eq!(rt; report.bad.len(), SHOWN_LINES);
-    assert_eq!(rt; report.bad[19].line, 39);
+    let Some(last) = report.bad.last() else {
+        return Err("no bad line".into());
+    };
+    assert_eq!(rt; last.line, 39);
     assert_eq!(rt; report.more, 3);
     let sums = Sums {
         count: 23,
@@ -117,7 +119,7 @@ fn a_list_that_is_not_read_is_not_told(rt: HostRuntime) -> Result<(), Fail> {
         let mut writer = Counted::new(FaultyWriter::new(rt.alloc(), 0, Refusal::Error));
         let told = tell_list(&team, "", &mut reader, &mut writer, &mut Nobody);
         assert_eq!(rt; told, Err(CheckFault::List(fault)), "read {read}");
-        assert_eq!(rt; writer.get_ref().text(), b"", "read {read}");
+        assert!(rt; writer.get_ref().text().is_empty(), "read {read}");
     }
     Ok(())
 }
