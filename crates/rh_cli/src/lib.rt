@@ -39,7 +39,7 @@ pub use file::open;
 pub use outlet::Outlet;
 pub use program::{answer, words};
 pub use progress::ProgressLine;
-pub use reason::{FileNote, Reason, note_on, note_on_file, reason_of};
+pub use reason::{FileNote, Reason, note_on, note_on_file, reason_of, tell_note};
 pub use showing::quoted;
 pub use status::{ProgramFault, Status};
 pub use streams::{buffered_reader, buffered_writer, finish};

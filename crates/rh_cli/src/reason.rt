@@ -4,6 +4,7 @@ ghost use Rattle.std.specs.Prelude.{◌≡◌, IfSome, string_bytes};
 ghost use Rattle.rh_cli.specs.Notes.{Explains, reason_of};
 
 use std::alloc::Global;
+use std::fmt::Display;
 use std::fs::{self, Files, Metadata};
 use std::io::{self, ErrorKind};
 use thiserror::Error;
@@ -82,5 +83,12 @@ pub fn reason_of(kind: ErrorKind) -> Option<Reason>
         ErrorKind::PermissionDenied => Some(Reason::NoRight),
         ErrorKind::StorageFull => Some(Reason::NoSpace),
         _ => None,
+    }
+}
+
+/// Tells a person besides a fault, under the name of the program, as far as standard error takes it.
+pub fn tell_note<N: Display>(rt: &impl Eprint, name: &str, note: &Option<N>) {
+    if let Some(note) = note {
+        let _ = eprintln!(rt; "{name}: {note}");
     }
 }

@@ -28,7 +28,7 @@ mod script;
 mod status;
 mod streams;
 
-pub use note::{Note, note_on_check, note_on_dump, tell_note};
+pub use note::{Note, note_on_check, note_on_dump};
 pub use script::run_by;
 pub use status::{Fault, conclude, tell};
 pub use streams::{check_file, dump_streams};

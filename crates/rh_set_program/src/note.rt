@@ -67,10 +67,3 @@ pub fn note_on_dump(ended: &Result<Status, Fault>) -> Option<Note> {
         _ => None,
     }
 }
-
-/// Tells a person as far as standard error takes it.
-pub fn tell_note(rt: &impl Eprint, note: &Option<Note>) {
-    if let Some(note) = note {
-        let _ = eprintln!(rt; "rhset: {note}");
-    }
-}

@@ -1,6 +1,7 @@
 -- How the program ends.
-use Rattle.std.specs.Prelude.{ℕ, Option, Some, None, Result, Ok, Err, if◌then◌else◌, nat_lt}
+use Rattle.std.specs.Prelude.{◌≡◌, ◌⊎◌, ℕ, Option, Some, None, Result, Ok, Err, if◌then◌else◌, nat_lt}
 use Rattle.rh_cli.specs.Endings.{ending_by_program as ending_by_program}
+use Rattle.rh_cli.specs.declared.status.ProgramFault.TheVariants as program
 use Rattle.rh_cli.specs.declared.status.Status.{Status}
 use Rattle.rh_cli.specs.declared.status.Status.TheVariants.{Refused, Memory, Write}
 use Rattle.rh_play_text.specs.declared.fault.PlayTextKind.{PlayTextKind}
@@ -50,3 +51,8 @@ ending (Err fault) = ending_by fault
 -- how many steps are drawn, where 0 stands for all
 abbrev pub steps_asked : ℕ → Option ℕ
 steps_asked steps = if nat_lt 0 steps then Some steps else None
+
+-- the file of the play could not be opened or read
+abbrev pub NotesFile : Result Status Fault → Type 0
+NotesFile r =
+    (r ≡ Err (fault.Program program.Open)) ⊎ (r ≡ Err (fault.Play (tell.Play plays.Read))) ⊎ (r ≡ Err (fault.Draw (draw.Play plays.Read)))

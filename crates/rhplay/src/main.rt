@@ -4,39 +4,66 @@
 ghost use Rattle.std.specs.Prelude.{◌≡◌};
 ghost use Rattle.rhplay.specs.Endings.{ending, ending_by};
 
+mod note;
 mod status;
 mod streams;
 
+use note::note_on_play;
 use rh_arguments::LineFault;
-use rh_cli::{ProgramFault, Status, answer, hold_closed, words};
+use rh_cli::{FileNote, ProgramFault, Status, answer, hold_closed, tell_note, words};
 use rh_play_commands::{Line, NAME, line, name_called};
 use rh_play_run::Telling;
 use status::Fault;
 use std::env::Env;
 use std::fs::Files;
+use std::io::IsTerminal;
 use std::process::ExitCode;
 use streams::{draw_file, play_file};
 
 fn main(rt: HostRuntime) -> ExitCode {
     let _held = hold_closed(&rt);
     let status = match words(&rt) {
-        Ok(words) => conclude(&rt, name_called(&words), &carry_out(&rt, &words)),
+        Ok(words) => run(&rt, &words, rt.stderr().is_terminal()),
         Err(fault) => tell(&rt, NAME, &Fault::Program(fault)),
     };
     ExitCode::from(status)
 }
 
+// Carries out the command, and tells its fault. What is known besides that is for a terminal alone.
+fn run(
+    rt: &(impl Env + Files + Print + Eprint + AllocGlobal),
+    words: &[String],
+    is_terminal: bool,
+) -> Status {
+    let name = name_called(words);
+    let mut note = None;
+    let status = conclude(rt, name, &carry_out(rt, words, &mut note));
+    if is_terminal {
+        tell_note(rt, name, &note);
+    }
+    status
+}
+
+// Carries out the command. What is known besides a fault is left in `note`.
 fn carry_out(
     rt: &(impl Env + Files + Print + Eprint + AllocGlobal),
     words: &[String],
+    note: &mut Option<FileNote>,
 ) -> Result<Status, Fault> {
-    match line(rt.alloc(), words) {
-        Ok(Line::Play { file }) => play_file(rt, Telling::Orders, &file),
-        Ok(Line::Trace { file }) => play_file(rt, Telling::Steps, &file),
-        Ok(Line::Draw { from, steps, file }) => draw_file(rt, from as u64, steps as u64, &file),
-        Err(LineFault::Words(error)) => Ok(answer(rt, &error)?),
-        Err(LineFault::Memory) => Err(Fault::Program(ProgramFault::Memory)),
-    }
+    let line = match line(rt.alloc(), words) {
+        Ok(line) => line,
+        Err(LineFault::Words(error)) => return Ok(answer(rt, &error)?),
+        Err(LineFault::Memory) => return Err(Fault::Program(ProgramFault::Memory)),
+    };
+    let (ended, file) = match line {
+        Line::Play { file } => (play_file(rt, Telling::Orders, &file), file),
+        Line::Trace { file } => (play_file(rt, Telling::Steps, &file), file),
+        Line::Draw { from, steps, file } => {
+            (draw_file(rt, from as u64, steps as u64, &file), file)
+        }
+    };
+    *note = note_on_play(rt, &file, &ended);
+    ended
 }
 
 // Tells the user, under the name by which the program was called, as far as standard error takes

@@ -5,11 +5,11 @@ ghost use Rattle.rh_set_program.specs.Scripts.{EndsScript};
 ghost use Rattle.rh_threads.specs.Made.{IsWorkers};
 
 use rh_arguments::LineFault;
-use rh_cli::{ProgramFault, Status, answer, hold_closed, words};
+use rh_cli::{ProgramFault, Status, answer, hold_closed, tell_note, words};
 use rh_commands::line::{Line, line};
 use rh_runner::Single;
 use rh_set_program::{
-    Fault, Note, check_file, conclude, dump_streams, note_on_check, note_on_dump, run_by, tell_note,
+    Fault, Note, check_file, conclude, dump_streams, note_on_check, note_on_dump, run_by,
 };
 use rh_threads::Threads;
 use std::env::Env;
@@ -24,7 +24,7 @@ fn main(rt: HostRuntime) -> ExitCode {
     let mut note = None;
     let status = conclude(&rt, &carry_out(&rt, &mut note));
     if rt.stderr().is_terminal() {
-        tell_note(&rt, &note);
+        tell_note(&rt, "rhset", &note);
     }
     ExitCode::from(status)
 }
