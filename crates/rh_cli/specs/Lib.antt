@@ -3,5 +3,8 @@ pub mod Endings
 pub mod Outlet
 pub mod Progress
 pub mod Watched
+pub mod Shared
+pub mod ByLine
+pub mod Sizes
 pub mod Notes
 pub mod Quoted

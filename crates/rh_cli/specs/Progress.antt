@@ -20,6 +20,10 @@ terminal line = line.terminal
 abbrev pub read_so_far : {R W : Type 0} → ProgressLine R W → ℕ
 read_so_far line = line.read
 
+-- the line of a script that has something read, where it is one
+abbrev pub line_at : {R W : Type 0} → ProgressLine R W → Option ℕ
+line_at line = line.at
+
 abbrev pub millions : ℕ → ℕ
 millions n = n / 1000000
 
@@ -31,10 +35,19 @@ told_total line = option_map millions line.total
 abbrev pub before : {R W : Type 0} → ProgressLine R W → List ℕ
 before line = if line.stands then taken_away else []
 
--- how many million bytes of so many were read, where that is known
+-- the line of a script that has it read, where one has
+abbrev pub front_text : (line : Option ℕ) → List ℕ
+front_text (Some line) = codes "line " ++ decimal line ++ codes ": "
+front_text None = []
+
+-- of how many million bytes, where that is known
+abbrev pub of_text : (total : Option ℕ) → List ℕ
+of_text (Some total) = codes " of " ++ decimal total
+of_text None = []
+
+-- how many million bytes of so many were read
 abbrev pub read_text : (read : ℕ) → (total : Option ℕ) → List ℕ
-read_text read (Some total) = codes "read " ++ decimal read ++ codes " of " ++ decimal total ++ codes " MB\n"
-read_text read None = codes "read " ++ decimal read ++ codes " MB\n"
+read_text read total = codes "read " ++ decimal read ++ of_text total ++ codes " MB\n"
 
 abbrev pub cut_text : List ℕ
 cut_text = codes "cutting the lists into parts\n"

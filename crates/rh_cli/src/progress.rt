@@ -1,9 +1,10 @@
 //! How far work is, as a line on a terminal that is gone at the end.
 
-ghost use Rattle.std.specs.Prelude.{◌≡◌, ◌+◌, ◌-◌, ◌^◌, false, min, option_map, true};
+ghost use Rattle.std.specs.Prelude.{◌≡◌, ◌+◌, ◌++◌, ◌-◌, ◌^◌, None, Some, false, min, option_map, true};
 ghost use Rattle.rh_bytes.specs.Counting.{failures_of, inner_of, joined};
 ghost use Rattle.rh_cli.specs.Progress.{IsSilent, Tells, Went, before, millions, stands};
-ghost use Rattle.rh_cli.specs.Progress.{cut_text, done_text, read_so_far, read_text, terminal, told_total};
+ghost use Rattle.rh_cli.specs.Progress.{cut_text, done_text, front_text, line_at, of_text, read_so_far};
+ghost use Rattle.rh_cli.specs.Progress.{read_text, terminal, told_total};
 
 use itoa::Buffer;
 use rh_bytes::{Counted, Progress, write_text, write_texts};
@@ -33,6 +34,8 @@ pub struct ProgressLine<'a, R, W> {
     read: u64,
     /// How many bytes are to be read, where that is known.
     total: Option<u64>,
+    /// The line of the script that has them read, where it is one.
+    at: Option<u64>,
 }
 
 impl<'a, R: Clock, W: Write> ProgressLine<'a, R, W> {
@@ -41,6 +44,7 @@ impl<'a, R: Clock, W: Write> ProgressLine<'a, R, W> {
         ensures away { stands result ≡ false }
         ensures writer { inner_of (terminal result) ≡ writer }
         ensures read { read_so_far result ≡ 0 }
+        ensures at { line_at result ≡ None }
     {
         let next = if is_terminal { first_time(rt) } else { None };
         ProgressLine {
@@ -50,7 +54,13 @@ impl<'a, R: Clock, W: Write> ProgressLine<'a, R, W> {
             stands: false,
             read: 0,
             total: None,
+            at: None,
         }
+    }
+
+    /// Whether the line may be shown at all.
+    pub fn may_show(&self) -> bool {
+        self.next.is_some()
     }
 
     /// So many bytes are to be read, where that is known.
@@ -58,8 +68,19 @@ impl<'a, R: Clock, W: Write> ProgressLine<'a, R, W> {
         ensures total { told_total self.new ≡ option_map millions total }
         ensures silent { IsSilent self.old self.new }
         ensures read { read_so_far self.new ≡ read_so_far self.old }
+        ensures at { line_at self.new ≡ line_at self.old }
     {
         self.total = total;
+    }
+
+    /// What is read from now on the line of a script of this number has read.
+    pub fn begin(&mut self, line: u64)
+        ensures at { line_at self.new ≡ Some line }
+        ensures silent { IsSilent self.old self.new }
+        ensures read { read_so_far self.new ≡ read_so_far self.old }
+        ensures total { told_total self.new ≡ told_total self.old }
+    {
+        self.at = Some(line);
     }
 
     /// Whether it is time to show the line anew.
@@ -67,8 +88,12 @@ impl<'a, R: Clock, W: Write> ProgressLine<'a, R, W> {
         ensures silent { IsSilent self.old self.new }
         ensures read { self.new.read ≡ self.old.read }
         ensures total { self.new.total ≡ self.old.total }
+        ensures at { self.new.at ≡ self.old.at }
     {
-        let (Some(next), Ok(now)) = (self.next, Instant::now(self.rt)) else {
+        let Some(next) = self.next else {
+            return false;
+        };
+        let Ok(now) = Instant::now(self.rt) else {
             return false;
         };
         if now < next {
@@ -100,9 +125,30 @@ impl<'a, R: Clock, W: Write> ProgressLine<'a, R, W> {
         ensures went { Went W.contents (terminal self.old) (terminal self.new) (joined texts.now) }
         ensures read { self.new.read ≡ self.old.read }
         ensures total { self.new.total ≡ self.old.total }
+        ensures at { self.new.at ≡ self.old.at }
     {
         let _ = write_texts(&mut self.terminal, texts);
         self.stands = true;
+    }
+}
+
+/// What comes before how much was read: which line of a script has it read, where one has.
+fn front(buffer: &mut Buffer, line: Option<u64>) -> (&[u8], &[u8], &[u8])
+    ensures { result.0.now ++ (result.1.now ++ result.2.now) ≡ front_text line }
+{
+    match line {
+        Some(line) => (b"line ", buffer.format(line).as_bytes(), b": "),
+        None => (b"", b"", b""),
+    }
+}
+
+/// What comes behind it: of how much, where that is known.
+fn behind(buffer: &mut Buffer, total: Option<u64>) -> (&[u8], &[u8])
+    ensures { result.0.now ++ result.1.now ≡ of_text (option_map millions total) }
+{
+    match total {
+        Some(total) => (b" of ", buffer.format(total / MEGABYTE).as_bytes()),
+        None => (b"", b""),
     }
 }
 
@@ -119,23 +165,23 @@ impl<R: Clock, W: Write> Progress for ProgressLine<'_, R, W> {
 
     fn read(&mut self, bytes: usize)
         ensures read { read_so_far self.new ≡ min (read_so_far self.old + bytes) (2 ^ 64 - 1) }
-        ensures tells { Tells W.contents self.old self.new
-            (read_text (millions (read_so_far self.new)) (told_total self.new)) }
+        ensures tells { Tells W.contents self.old self.new (front_text (line_at self.new)
+            ++ read_text (millions (read_so_far self.new)) (told_total self.new)) }
+        ensures at { line_at self.new ≡ line_at self.old }
     {
         self.read = self.read.saturating_add(bytes as u64);
         if !self.is_due() {
             return;
         }
         let before = self.before();
-        let (mut read, mut total) = (Buffer::new(), Buffer::new());
+        let (mut line, mut read) = (Buffer::new(), Buffer::new());
+        let (name, line, colon) = front(&mut line, self.at);
         let read = read.format(self.read / MEGABYTE).as_bytes();
-        match self.total {
-            Some(of) => {
-                let of = total.format(of / MEGABYTE).as_bytes();
-                self.show(&[before, b"read ", read, b" of ", of, b" MB\n"]);
-            }
-            None => self.show(&[before, b"read ", read, b" MB\n"]),
-        }
+        let mut total = Buffer::new();
+        let (of, total) = behind(&mut total, self.total);
+        self.show(&[
+            before, name, line, colon, b"read ", read, of, total, b" MB\n",
+        ]);
     }
 
     fn cut(&mut self)

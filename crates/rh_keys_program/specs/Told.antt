@@ -1,7 +1,5 @@
 -- What the program tells of a fault: of what was read, why, and how many parts would do.
 use Rattle.std.specs.Prelude.{◌≡◌, ◌≢◌, ◌⊎◌, ℕ, List, Option, Some, None, Result, Ok, Err, IfErr, if◌then◌else◌, nat_lt, option_map, slice_get, string_bytes}
-use Rattle.std.specs.Fs.{IsFile, file_type, metadata_len}
-use Rattle.std.specs.declared.fs.attrs.Metadata.{Metadata}
 use Rattle.std.specs.declared.io.ErrorKind.{ErrorKind}
 use Rattle.std.specs.declared.io.ErrorKind.TheVariants.{NotFound, PermissionDenied}
 use Rattle.rh_bytes.specs.declared.fault.WriteFault.{WriteFault}
@@ -142,11 +140,6 @@ TellsCommand paths command.Memory told = told ≡ fault.Program program.Memory
 TellsCommand paths command.Write told = told ≡ fault.Program program.Write
 
 -- ---- sizes and parts
-
--- the size that the system says, where it is that of a file
-abbrev pub IsSizeIn : Metadata → Option ℕ → Type 0
-IsSizeIn metadata (Some bytes) = IsFile (file_type metadata) × (bytes ≡ metadata_len metadata)
-IsSizeIn metadata None = IsFile (file_type metadata) → ⊥
 
 -- as many parts as were asked for, or where that is 0 as the size of the input asks for
 abbrev pub parts_of : Source → (asked : ℕ) → (size : Option ℕ) → Option ℕ

@@ -3,13 +3,13 @@
 ghost use Rattle.std.specs.Prelude.{◌≡◌, ◌↔◌, ℕ, IfSome};
 ghost use Rattle.std.specs.Fs.{IsDir, file_type};
 ghost use Rattle.rh_keys_program.specs.Endings.{ending_by, ending_by_input};
-ghost use Rattle.rh_keys_program.specs.Told.{Explains, IsFolderOrNone, IsOfLine, IsSizeIn};
+ghost use Rattle.rh_keys_program.specs.Told.{Explains, IsFolderOrNone, IsOfLine};
 ghost use Rattle.rh_keys_program.specs.Told.{MayShow, TellsInput};
 ghost use Rattle.rh_keys_program.specs.Told.{path_of, reason_of_kind};
 
 use crate::fault::{Fault, Found, InputFault, Place, Reason};
 use rh_bytes::{Counted, Filled, fill_front};
-use rh_cli::ProgramFault;
+use rh_cli::{ProgramFault, STANDARD_INPUT, size_of};
 use rh_key_files::KeyFault;
 use rh_list_files::INPUT;
 use rh_numbers::{TextFault, line_at};
@@ -21,9 +21,6 @@ use std::os::unix::fs::{FileTypeExt, MetadataExt};
 
 /// So many bytes of a file say what it is.
 const HEAD_BYTES: usize = 4;
-
-/// Where the system has standard input.
-const STANDARD_INPUT: &str = "/dev/stdin";
 
 impl Place {
     ghost use Rattle.std.specs.Prelude.{◌≡◌, [], ◌∷◌, ◌⊎◌, Some, None, map, string_bytes};
@@ -51,21 +48,6 @@ impl Place {
     pub fn size(&self, files: &impl Files) -> Option<u64> {
         size_of(files, self.file().unwrap_or(STANDARD_INPUT))
     }
-}
-
-/// How many bytes stand at the path, where that is a file.
-pub(crate) fn size_of(files: &impl Files, path: &str) -> Option<u64> {
-    match fs::metadata(files, path) {
-        Ok(metadata) => size_in(&metadata),
-        Err(_) => None,
-    }
-}
-
-/// The size that the system says, if it is that of a file.
-fn size_in(metadata: &Metadata) -> Option<u64>
-    ensures { IsSizeIn metadata.now result }
-{
-    metadata.is_file().then_some(metadata.len())
 }
 
 /// Whether a file beside standard input, which is named, is the same pipe: `-` takes all that comes

@@ -7,8 +7,8 @@ ghost use Rattle.rh_list_files.specs.Reading.{IsInside};
 ghost use Rattle.rh_keys_program.specs.Told.{TellsCommand, TellsList, path_of};
 
 use crate::fault::{Fault, InputFault, Place};
-use crate::inputs::{size_of, told_of_input};
-use rh_cli::ProgramFault;
+use crate::inputs::told_of_input;
+use rh_cli::{ProgramFault, size_of};
 use rh_key_commands::line::MAX_WORKERS;
 use rh_list_files::{CommandFault, FileFault, INPUT};
 use rh_lists::ListFault;

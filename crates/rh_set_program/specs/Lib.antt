@@ -1,3 +1,4 @@
 pub mod Endings
+pub mod Followed
 pub mod Notes
 pub mod Scripts

@@ -17,10 +17,13 @@
 //! - A second line, for a terminal: of a script's faulty line it shows the word or the line at fault
 //!   (`note_on_script`), and of a run it has the numbers that the last command wanted, or its file,
 //!   by the cause alone (`note_on_run`). Which file that is, and why, is tested.
+//! - A shelf of whose files it is told how much was read gives and takes what its shelf does
+//!   (`FollowedShelf`).
 //!
 //! What real streams give and take no contract says.
 #![tactic(auto)]
 
+mod followed;
 mod line_notes;
 mod note;
 mod run_notes;
@@ -29,6 +32,6 @@ mod status;
 mod streams;
 
 pub use note::{Note, note_on_check, note_on_dump};
-pub use script::run_by;
+pub use script::{Output, run_by};
 pub use status::{Fault, conclude, tell};
 pub use streams::{check_file, dump_streams};

@@ -1,7 +1,8 @@
 //! The command `run`: a script over the files of the current folder.
 
-ghost use Rattle.std.specs.Prelude.{◌≡◌, ◌⊎◌, [], IfErr, IfOk, IfSome, Ok, OnOk, Some, take};
+ghost use Rattle.std.specs.Prelude.{◌≡◌, ◌⊎◌, [], IfErr, IfOk, IfSome, None, Ok, OnOk, Some, take};
 ghost use Rattle.std.specs.Io.Buffered.{writer_buffer, writer_contents};
+ghost use Rattle.rh_cli.specs.ByLine.{lines_to};
 ghost use Rattle.rh_cli.specs.Endings.{Ends, EndsBy};
 ghost use Rattle.rh_operations.specs.Leaves.{KeepsRunner};
 ghost use Rattle.rh_script.specs.Grammar.{script_of};
@@ -13,21 +14,24 @@ ghost use Rattle.rh_shelf.specs.Shelf.{Files as OfShelf};
 ghost use Rattle.rh_set_program.specs.Scripts.{EndsScript, TellsScript, cause_told};
 ghost use Rattle.rh_set_program.specs.declared.script.TheConstants.{MAX_BYTES};
 
+use crate::followed::{FollowedShelf, bytes_of_lists};
 use crate::line_notes::note_on_script;
 use crate::note::{Note, note_on_path};
 use crate::run_notes::note_on_run;
 use crate::status::{Fault, running};
 use rh_bytes::{Counted, fill};
-use rh_cli::{ProgramFault, Status, buffered_writer, finish, open};
+use rh_cli::{ByLine, Clearing, ProgramFault, ProgressLine, Status, buffered_writer, finish, open};
 use rh_runner::Runner;
 use rh_script::{MAX_LINE_BYTES, MAX_LINES, Script, parse};
 use rh_script_run::{Wanted, run_noting};
 use rh_shelf::{CountedShelf, FileShelf, Lender};
 use std::alloc::Global;
+use std::cell::RefCell;
 use std::fs::Files;
-use std::io::{self, BufWriter, Read, Write};
+use std::io::{BufWriter, Read, Write};
 use std::sync::Wait;
 use std::thread::Threads;
+use std::time::Clock;
 
 // A script of more bytes has a faulty line within these: one too many, or one that is too long.
 const MAX_BYTES: usize = MAX_LINES as usize * (MAX_LINE_BYTES + 1) + 1;
@@ -35,19 +39,63 @@ const MAX_BYTES: usize = MAX_LINES as usize * (MAX_LINE_BYTES + 1) + 1;
 // How many bytes are read at once.
 const PART_BYTES: usize = 8_192;
 
-/// Carries out the script at the path by this runner, and writes its report to standard output. The
-/// report goes through a buffer. What is known besides a fault is left in `note`.
-pub fn run_by<N: Runner>(
-    rt: &(impl Files + Print + AllocGlobal + Threads + Wait + Sync),
+/// Where the report of a script goes.
+#[derive(Drop)]
+pub struct Output<W> {
+    pub writer: W,
+    /// Whether each line is to be written at once, as a terminal wants it.
+    pub by_line: bool,
+}
+
+/// Carries out the script at the path by this runner, and writes its report. The report goes through
+/// a buffer. How much of its lists is read is told, and taken away before each write. What is known
+/// besides a fault is left in `note`.
+pub fn run_by<R, N: Runner, W: Write + Drop, E: Write>(
+    rt: &R,
     runner: &mut N,
+    output: Output<W>,
     path: &str,
+    progress: &mut RefCell<ProgressLine<'_, R, E>>,
     note: &mut Option<Note>,
 ) -> Result<Status, Fault>
+where
+    R: Clock + Files + AllocGlobal + Threads + Wait + Sync,
     ensures ends { EndsScript result }
     ensures runner { KeepsRunner (N.refused_starts runner.old) (N.refused_starts runner.new)
         (cause_told result) }
 {
     let alloc = rt.alloc();
+    let script = match script_at(rt, path, note) {
+        Ok(script) => script,
+        Err(fault) => return Err(fault),
+    };
+    if progress.get_mut().may_show() {
+        progress.get_mut().expect(bytes_of_lists(rt, &script));
+    }
+    let progress = &*progress;
+    let Output { writer, by_line } = output;
+    let Ok(writer) = buffered_writer(alloc, Clearing::new(writer, progress)) else {
+        return Err(Fault::Program(ProgramFault::Memory));
+    };
+    let mut shelf = CountedShelf::new(FollowedShelf::new(FileShelf::new(rt), &script, progress));
+    let writer = ByLine::new(writer, by_line);
+    let (ended, _writer, wanted) = run_out(rt, alloc, &script, &mut shelf, runner, writer);
+    if let Err(Fault::Run(fault)) = &ended {
+        let refused = shelf.get_ref().get_ref().last_failure();
+        *note = note_on_run(alloc, rt, &script, fault, wanted, refused);
+    }
+    ended
+}
+
+/// The script at the path. What is known besides a fault is left in `note`.
+fn script_at(
+    rt: &(impl Files + AllocGlobal),
+    path: &str,
+    note: &mut Option<Note>,
+) -> Result<Script, Fault>
+    ensures { IfErr result
+        (λ told. (told ≡ Fault.Program ProgramFault.Open) ⊎ TellsScript None told) }
+{
     let file = match open(rt, path) {
         Ok(file) => file,
         Err(fault) => {
@@ -55,25 +103,11 @@ pub fn run_by<N: Runner>(
             return Err(Fault::Program(fault));
         }
     };
-    let script = match read_script(alloc, file, note) {
-        Ok(script) => script,
-        Err(fault) => {
-            if let Fault::Read = fault {
-                *note = note_on_path(rt, path);
-            }
-            return Err(fault);
-        }
-    };
-    let Ok(writer) = buffered_writer(alloc, io::writer(rt)) else {
-        return Err(Fault::Program(ProgramFault::Memory));
-    };
-    let mut shelf = CountedShelf::new(FileShelf::new(rt));
-    let (ended, _writer, wanted) = run_out(rt, alloc, &script, &mut shelf, runner, writer);
-    if let Err(Fault::Run(fault)) = &ended {
-        let refused = shelf.get_ref().last_failure();
-        *note = note_on_run(alloc, rt, &script, fault, wanted, refused);
+    let script = read_script(rt.alloc(), file, note);
+    if let Err(Fault::Read) = &script {
+        *note = note_on_path(rt, path);
     }
-    ended
+    script
 }
 
 /// Carries out the script, whose report goes through this buffer, and writes out what that still
@@ -85,13 +119,13 @@ fn run_out<T: Threads + Wait + Sync, S: Lender, N: Runner, W: Write + Drop>(
     script: &Script,
     shelf: &mut S,
     runner: &mut N,
-    writer: BufWriter<W>,
+    writer: ByLine<BufWriter<W>>,
 ) -> (Result<Status, Fault>, BufWriter<W>, Option<Wanted>)
     ensures ends { (files : OfShelf) → (S.state shelf.old).files ≡ Some files →
         Ends {X = OfRun} (λ f told. told ≡ Fault.Run f) Fault.Program
         (λ out r. Means files (steps_of script.now)
         (environment (S.state shelf.old) (N.refused_starts runner.old)
-        (writer_contents W.contents writer))
+        (writer_contents W.contents (lines_to writer)))
         (environment (S.state shelf.new) (N.refused_starts runner.new) out) r)
         (writer_contents W.contents result.1) result.0 }
     ensures cases { EndsBy (λ f told. told ≡ Fault.Run f) Fault.Program result.0 }
@@ -101,9 +135,10 @@ fn run_out<T: Threads + Wait + Sync, S: Lender, N: Runner, W: Write + Drop>(
 {
     let mut writer = Counted::new(writer);
     let (outcome, wanted) = run_noting(rt, alloc, script, shelf, runner, &mut writer);
+    let lines = writer.into_inner();
     let (ended, writer) = finish(
         running(outcome),
-        writer.into_inner(),
+        lines.into_inner(),
         Fault::Program(ProgramFault::Write),
     );
     (ended, writer, wanted)

@@ -8,21 +8,29 @@ ghost use Rattle.rh_commands.specs.Check.{Checks};
 ghost use Rattle.rh_commands.specs.Dump.{Dumps};
 
 use crate::status::{Fault, checking, dumping};
-use rh_bytes::Counted;
-use rh_cli::{ProgramFault, Status, buffered_reader, buffered_writer, finish, open};
+use rh_bytes::{Counted, Progress};
+use rh_cli::{
+    Clearing, Followed, ProgramFault, Status, buffered_reader, buffered_writer, finish, open,
+};
 use rh_commands::{check_snapshot, dump_keys};
 use std::alloc::Global;
+use std::cell::RefCell;
 use std::fs::Files;
-use std::io::{self, BufWriter, Read, Write};
+use std::io::{BufWriter, Read, Write};
 
-/// Dumps the keys on standard input to standard output.
-pub fn dump_streams(rt: &(impl Input + Print + AllocGlobal)) -> Result<Status, Fault>
+/// Dumps the keys on standard input to this writer. How much is read is told, and taken away before
+/// each write.
+pub fn dump_streams<W: Write + Drop, P: Progress>(
+    rt: &(impl Input + AllocGlobal),
+    output: W,
+    progress: &RefCell<P>,
+) -> Result<Status, Fault>
     ensures { EndsBy (λ f told. told ≡ Fault.Dump f) Fault.Program result }
 {
     let alloc = rt.alloc();
     let (Ok(reader), Ok(writer)) = (
-        buffered_reader(alloc, rt.reader()),
-        buffered_writer(alloc, io::writer(rt)),
+        buffered_reader(alloc, Followed::new(rt.reader(), progress)),
+        buffered_writer(alloc, Clearing::new(output, progress)),
     ) else {
         return Err(Fault::Program(ProgramFault::Memory));
     };
@@ -50,8 +58,14 @@ fn dump_out<R: Read, W: Write + Drop>(
     )
 }
 
-/// Writes the line of the snapshot at the path to standard output.
-pub fn check_file(rt: &(impl Files + Print + AllocGlobal), path: &str) -> Result<Status, Fault>
+/// Writes the line of the snapshot at the path to this writer. How much is read is told, and taken
+/// away before each write.
+pub fn check_file<W: Write + Drop, P: Progress>(
+    rt: &(impl Files + AllocGlobal),
+    output: W,
+    path: &str,
+    progress: &RefCell<P>,
+) -> Result<Status, Fault>
     ensures { (result ≡ Err (Fault.Program ProgramFault.Open))
         ⊎ EndsBy (λ f told. told ≡ Fault.Check f) Fault.Program result }
 {
@@ -61,8 +75,8 @@ pub fn check_file(rt: &(impl Files + Print + AllocGlobal), path: &str) -> Result
         Err(fault) => return Err(Fault::Program(fault)),
     };
     let (Ok(reader), Ok(writer)) = (
-        buffered_reader(alloc, file),
-        buffered_writer(alloc, io::writer(rt)),
+        buffered_reader(alloc, Followed::new(file, progress)),
+        buffered_writer(alloc, Clearing::new(output, progress)),
     ) else {
         return Err(Fault::Program(ProgramFault::Memory));
     };
