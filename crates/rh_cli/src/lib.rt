@@ -13,14 +13,15 @@
 //!   the system says, where that is one of a file.
 //! - `buffered_reader`, `buffered_writer`: the stream behind an empty buffer of 8,192 bytes, or
 //!   want of memory.
-//! - `Outlet` writes what is written to it to its writer, and nothing else.
+//! - `Outlet` writes what is written to it to its writer, and nothing else. It keeps what the system
+//!   said of its last failure.
 //! - `ProgressLine`: what it writes to its terminal, and when a line stands there. Before another
 //!   line, and where it is cleared, the one that stands is taken away.
 //! - `Watched` and `Followed` read what their reader has.
 //! - `Clearing` writes what is written to it to its writer, and nothing else, by a function that
 //!   requires that no line stands. `ByLine` adds what is written to it to its buffer.
 //! - `quoted`: the text in which bytes are shown, by the definition `specs/Quoted.antt`.
-//! - `note_on_file`, `reason_of`: the path, and the reason by what the system says.
+//! - `note_on_file`, `note_on_output`, `reason_of`: the path, and the reason by what the system says.
 //! - `finish`: a fault of the work of a command comes first, then that its output could not be
 //!   written out; else it is done, and its buffer is empty. Of a writer that tells its bytes all is
 //!   written, or a write failed, and none is lost or comes twice.
@@ -45,7 +46,7 @@ pub use file::{STANDARD_INPUT, open, size_of};
 pub use outlet::Outlet;
 pub use program::{answer, words};
 pub use progress::ProgressLine;
-pub use reason::{FileNote, Reason, note_on, note_on_file, reason_of, tell_note};
+pub use reason::{FileNote, Reason, note_on, note_on_file, note_on_output, reason_of, tell_note};
 pub use shared::{Clearing, Followed};
 pub use showing::quoted;
 pub use status::{ProgramFault, Status};

@@ -1,48 +1,57 @@
-//! A writer that notices when nobody reads any more what is written.
+//! A writer that keeps why it failed last, and notices when nobody reads any more what is written.
 
-ghost use Rattle.std.specs.Prelude.{◌≡◌, ◌↔◌, false, IfErr, IsTrue, OnOk};
+ghost use Rattle.std.specs.Prelude.{◌≡◌, ◌↔◌, IfErr, IsTrue, None, OnOk, Some};
 ghost use Rattle.std.specs.Io.{WritesAtMost};
 ghost use Rattle.std.specs.IoError.{error_kind};
 ghost use Rattle.std.specs.declared.io.ErrorKind.TheVariants.{BrokenPipe};
 ghost use Rattle.std.specs.Io.KnownBytes.{Keeps, WriteAppends};
-ghost use Rattle.rh_cli.specs.Outlet.{inside, reader_gone};
+ghost use Rattle.rh_cli.specs.Outlet.{inside, last_failure};
 
 use std::io::{self, ErrorKind, Write};
 
-/// A writer, and whether its last failure was that its reader had gone away, as `head` does after
-/// its last line. Programs for pipes end then without a word.
+/// A writer, and what the system said of its last failure. Where that was that its reader had gone
+/// away, as `head` does after its last line, programs for pipes end without a word.
 #[derive(Drop)]
 pub struct Outlet<W> {
     inner: W,
-    is_gone: bool,
+    last_failure: Option<ErrorKind>,
 }
 
 impl<W> Outlet<W> {
     pub fn new(inner: W) -> Outlet<W>
         ensures inner { inside result ≡ inner }
-        ensures here { reader_gone result ≡ false }
+        ensures fine { last_failure result ≡ None }
     {
         Outlet {
             inner,
-            is_gone: false,
+            last_failure: None,
         }
+    }
+
+    /// What the system said of the last failure.
+    pub fn last_failure(&self) -> Option<ErrorKind>
+        ensures { result ≡ last_failure self.now }
+    {
+        self.last_failure
     }
 
     /// Whether the last failure was that the reader had gone away.
     pub fn is_gone(&self) -> bool
-        ensures { result ≡ reader_gone self.now }
+        ensures { IsTrue result ↔ last_failure self.now ≡ Some BrokenPipe }
     {
-        self.is_gone
+        match self.last_failure {
+            Some(kind) => kind == ErrorKind::BrokenPipe,
+            None => false,
+        }
     }
 
     fn note<T>(&mut self, outcome: &io::Result<T>)
         ensures same { inside self.new ≡ inside self.old }
-        ensures gone { IfErr outcome.now
-            (λ e. IsTrue (reader_gone self.new) ↔ error_kind e ≡ BrokenPipe) }
-        ensures fine { OnOk outcome.now (reader_gone self.new ≡ reader_gone self.old) }
+        ensures failed { IfErr outcome.now (λ e. last_failure self.new ≡ Some (error_kind e)) }
+        ensures fine { OnOk outcome.now (last_failure self.new ≡ last_failure self.old) }
     {
         if let Err(error) = outcome {
-            self.is_gone = error.kind() == ErrorKind::BrokenPipe;
+            self.last_failure = Some(error.kind());
         }
     }
 }
@@ -54,9 +63,8 @@ impl<W: Write> Write for Outlet<W> {
         ensures bound { WritesAtMost result buf.now }
         ensures bytes { WriteAppends (W.contents (inside self.old)) (W.contents (inside self.new))
             result buf.now }
-        ensures gone { IfErr result
-            (λ e. IsTrue (reader_gone self.new) ↔ error_kind e ≡ BrokenPipe) }
-        ensures fine { OnOk result (reader_gone self.new ≡ reader_gone self.old) }
+        ensures failed { IfErr result (λ e. last_failure self.new ≡ Some (error_kind e)) }
+        ensures fine { OnOk result (last_failure self.new ≡ last_failure self.old) }
     {
         let outcome = self.inner.write(buf);
         self.note(&outcome);
@@ -65,9 +73,8 @@ impl<W: Write> Write for Outlet<W> {
 
     fn flush(&mut self) -> io::Result<()>
         ensures bytes { Keeps (W.contents (inside self.old)) (W.contents (inside self.new)) }
-        ensures gone { IfErr result
-            (λ e. IsTrue (reader_gone self.new) ↔ error_kind e ≡ BrokenPipe) }
-        ensures fine { OnOk result (reader_gone self.new ≡ reader_gone self.old) }
+        ensures failed { IfErr result (λ e. last_failure self.new ≡ Some (error_kind e)) }
+        ensures fine { OnOk result (last_failure self.new ≡ last_failure self.old) }
     {
         let outcome = self.inner.flush();
         self.note(&outcome);

@@ -1,6 +1,6 @@
 //! Why the system did not open, read or write a file.
 
-ghost use Rattle.std.specs.Prelude.{◌≡◌, IfSome, string_bytes};
+ghost use Rattle.std.specs.Prelude.{◌≡◌, IfSome, Some, string_bytes};
 ghost use Rattle.rh_cli.specs.Notes.{Explains, reason_of};
 
 use std::alloc::Global;
@@ -57,6 +57,13 @@ pub fn note_on(alloc: Global, path: &str, reason: Reason) -> Option<FileNote>
         return None;
     };
     Some(FileNote { path, reason })
+}
+
+/// What is said of output that could not be written, where the system said this of the last write.
+pub fn note_on_output(alloc: Global, refused: Option<ErrorKind>) -> Option<FileNote>
+    ensures { IfSome result (λ note. IfSome refused (λ kind. reason_of kind ≡ Some note.reason)) }
+{
+    note_on(alloc, "standard output", reason_of(refused?)?)
 }
 
 /// Why what the system finds at a path cannot be opened or read, as far as it says so.

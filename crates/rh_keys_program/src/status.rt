@@ -1,10 +1,13 @@
 //! How the program ends.
 
-ghost use Rattle.std.specs.Prelude.{◌≡◌};
+ghost use Rattle.std.specs.Prelude.{◌≡◌, ◌≢◌, IfSome, Some, false, true};
+ghost use Rattle.std.specs.declared.io.ErrorKind.TheVariants.{BrokenPipe};
+ghost use Rattle.rh_cli.specs.Notes.{reason_of};
+ghost use Rattle.rh_cli.specs.Outlet.{last_failure};
 ghost use Rattle.rh_keys_program.specs.Endings.{ending, ending_by, ending_by_input, ending_by_part};
 
 use crate::fault::{Fault, InputFault};
-use rh_cli::{ProgramFault, Status};
+use rh_cli::{Outlet, ProgramFault, Reason, Status, reason_of};
 use rh_endings::{status_of_keys, status_of_snapshot};
 use rh_key_files::KeyFault;
 use rh_numbers::TextFault;
@@ -60,28 +63,42 @@ fn status_of_part(fault: &FilesFault) -> Status
     }
 }
 
-/// Tells the user as far as standard error takes it.
-pub fn tell(rt: &impl Eprint, fault: &Fault) -> Status
+/// Tells the user as far as standard error takes it, with the reason where one is known.
+pub fn tell(rt: &impl Eprint, fault: &Fault, reason: Option<Reason>) -> Status
     ensures { result ≡ ending_by fault.now }
 {
-    let _ = match fault {
+    let _ = match (fault, reason) {
+        (_, Some(reason)) => eprintln!(rt; "rhkeys: {fault}: {reason}"),
         // More memory is seldom to be had, but a list can be split.
-        Fault::Program(ProgramFault::Memory) => {
+        (Fault::Program(ProgramFault::Memory), None) => {
             eprintln!(rt; "rhkeys: {fault}; see rhkeys-combine --help")
         }
-        _ => eprintln!(rt; "rhkeys: {fault}"),
+        (_, None) => eprintln!(rt; "rhkeys: {fault}"),
     };
     fault.status()
 }
 
-/// How the program ends that came to this. A fault is told, but where the reader of the output has
-/// gone away: so the usual tools do, which the signal of a closed pipe ends.
-pub fn conclude(rt: &impl Eprint, outcome: &Result<Status, Fault>, reader_gone: bool) -> Status
-    ensures { result ≡ ending outcome.now reader_gone }
+/// How the program ends that came to this, and wrote to this outlet. A fault is told, but where the
+/// reader of the output has gone away: so the usual tools do, which the signal of a closed pipe
+/// ends.
+pub fn conclude<W>(rt: &impl Eprint, outcome: &Result<Status, Fault>, outlet: &Outlet<W>) -> Status
+    ensures gone { last_failure outlet.now ≡ Some BrokenPipe → result ≡ ending outcome.now true }
+    ensures there { last_failure outlet.now ≢ Some BrokenPipe → result ≡ ending outcome.now false }
 {
     match outcome {
         Ok(status) => *status,
-        Err(_) if reader_gone => Status::ReaderGone,
-        Err(fault) => tell(rt, fault),
+        Err(_) if outlet.is_gone() => Status::ReaderGone,
+        Err(fault) => tell(rt, fault, reason_unwritten(fault, outlet)),
+    }
+}
+
+/// Why the output could not be written, where that is the fault and the system says so.
+fn reason_unwritten<W>(fault: &Fault, outlet: &Outlet<W>) -> Option<Reason>
+    ensures { IfSome result (λ reason. (fault.now ≡ Fault.Program ProgramFault.Write)
+        × IfSome (last_failure outlet.now) (λ kind. reason_of kind ≡ Some reason)) }
+{
+    match fault {
+        Fault::Program(ProgramFault::Write) => reason_of(outlet.last_failure()?),
+        _ => None,
     }
 }

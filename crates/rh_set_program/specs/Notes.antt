@@ -1,5 +1,5 @@
 -- What a second line says, for a person.
-use Rattle.std.specs.Prelude.{◌≡◌, ◌≢◌, ◌⊎◌, ℕ, ◌-◌, List, ◌∷◌, drop, IsTrue, not, Option, None, Some, string_bytes}
+use Rattle.std.specs.Prelude.{◌≡◌, ◌≢◌, ◌⊎◌, ℕ, ◌-◌, List, ◌∷◌, drop, IsTrue, not, Option, None, Some, Result, Err, string_bytes}
 use Rattle.std.specs.List.{list_all, slice_get}
 use Rattle.rh_cli.specs.Quoted.{quoted}
 use Rattle.rh_key_files.specs.declared.fault.KeyFault.TheVariants as keys
@@ -12,6 +12,12 @@ use Rattle.rh_script.specs.declared.fault.ScriptFault.{ScriptFault}
 use Rattle.rh_script.specs.declared.fault.ScriptFaultKind.{ScriptFaultKind}
 use Rattle.rh_script.specs.declared.fault.ScriptFaultKind.TheVariants.{BadCommand, BadName}
 use Rattle.rh_script_run.specs.declared.wanted.Wanted.{Wanted}
+use Rattle.rh_cli.specs.declared.status.ProgramFault.TheVariants as program
+use Rattle.rh_cli.specs.declared.status.Status.{Status}
+use Rattle.rh_commands.specs.declared.check.CheckFault.TheVariants as check
+use Rattle.rh_commands.specs.declared.dump.DumpFault.TheVariants as dump
+use Rattle.rh_set_program.specs.declared.status.Fault.{Fault}
+use Rattle.rh_set_program.specs.declared.status.Fault.TheVariants as fault
 use Rattle.rh_set_program.specs.declared.note.Note.{Note}
 use Rattle.rh_set_program.specs.declared.note.Note.TheVariants as note
 
@@ -61,3 +67,11 @@ NotesRun cause wanted (note.TooLarge held list) = (cause ≡ causes.TooLarge) ×
 NotesRun cause wanted (note.File f) = IsOfFile cause
 NotesRun cause wanted (note.Text path) = (cause ≡ causes.Keys keys.NotKeys) ⊎ (cause ≡ causes.Keys keys.Short)
 NotesRun cause wanted told = ⊥
+
+-- a command ended so because its output could not be written
+abbrev pub IsUnwritten : Result Status Fault → Type 0
+IsUnwritten (Err (fault.Program f)) = f ≡ program.Write
+IsUnwritten (Err (fault.Dump f)) = f ≡ dump.Write
+IsUnwritten (Err (fault.Check f)) = f ≡ check.Write
+IsUnwritten (Err (fault.Run f)) = f.cause ≡ causes.Write
+IsUnwritten r = ⊥

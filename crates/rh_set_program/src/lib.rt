@@ -16,7 +16,8 @@
 //!   faulty line can have; or memory was wanted, or a read failed (`front_of`).
 //! - A second line, for a terminal: of a script's faulty line it shows the word or the line at fault
 //!   (`note_on_script`), and of a run it has the numbers that the last command wanted, or its file,
-//!   by the cause alone (`note_on_run`). Which file that is, and why, is tested.
+//!   by the cause alone (`note_on_run`). Which file that is, and why, is tested. It says of the output
+//!   why it was not written only where that is the fault (`note_on_unwritten`).
 //! - A shelf of whose files it is told how much was read gives and takes what its shelf does
 //!   (`FollowedShelf`).
 //!
@@ -31,7 +32,7 @@ mod script;
 mod status;
 mod streams;
 
-pub use note::{Note, note_on_check, note_on_dump};
+pub use note::{Note, note_on_check, note_on_dump, note_on_unwritten};
 pub use script::{Output, run_by};
 pub use status::{Fault, conclude, tell};
 pub use streams::{check_file, dump_streams};

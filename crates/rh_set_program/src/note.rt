@@ -1,12 +1,18 @@
 //! What a person is told besides a fault, on a line of its own.
 
+ghost use Rattle.std.specs.Prelude.{IfSome};
+ghost use Rattle.rh_set_program.specs.Notes.{IsUnwritten};
+
 use crate::status::Fault;
-use rh_cli::{FileNote, ProgramFault, Status, note_on_file};
+use rh_cli::{FileNote, ProgramFault, Status, note_on_file, note_on_output};
 use rh_commands::{CheckFault, DumpFault};
 use rh_key_files::KeyFault;
 use rh_layout::MAX_BITS;
+use rh_script_run::{Cause, RunFault};
 use rh_snapshot::SnapFault;
+use std::alloc::Global;
 use std::fs::Files;
+use std::io::ErrorKind;
 use thiserror::Error;
 
 /// The most keys for which a command makes a table: they fill three quarters of it.
@@ -64,6 +70,31 @@ pub fn note_on_dump(ended: &Result<Status, Fault>) -> Option<Note> {
     match ended {
         Err(Fault::Dump(DumpFault::TooLarge)) => Some(Note::TooMany),
         Err(Fault::Dump(DumpFault::Keys(KeyFault::NotKeys))) => Some(Note::Input),
+        _ => None,
+    }
+}
+
+/// What is said of a command that ended so because its output could not be written, where the system
+/// said this of the last write.
+pub fn note_on_unwritten(
+    alloc: Global,
+    ended: &Result<Status, Fault>,
+    refused: Option<ErrorKind>,
+) -> Option<Note>
+    ensures { IfSome result (λ _. IsUnwritten ended.now) }
+{
+    match ended {
+        Err(
+            Fault::Program(ProgramFault::Write)
+            | Fault::Dump(DumpFault::Write)
+            | Fault::Check(CheckFault::Write)
+            | Fault::Run(
+                RunFault {
+                    cause: Cause::Write,
+                    ..
+                },
+            ),
+        ) => Some(Note::File(note_on_output(alloc, refused)?)),
         _ => None,
     }
 }

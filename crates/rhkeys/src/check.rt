@@ -74,7 +74,7 @@ fn check_place<T: Files + Input + Eprint + Threads + Sync, W: Write, P: Progress
         Err(Fault::Program(fault)) => Err(Fault::Program(fault)),
         Err(fault) => {
             progress.clear();
-            tell(team.rt, &fault);
+            tell(team.rt, &fault, None);
             Ok(Status::Refused)
         }
     }

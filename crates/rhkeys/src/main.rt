@@ -32,7 +32,7 @@ fn main(rt: HostRuntime) -> ExitCode {
     let mut progress = ProgressLine::new(&rt, stream, is_terminal);
     let outcome = carry_out(&rt, &mut outlet, &mut progress);
     progress.clear();
-    ExitCode::from(conclude(&rt, &outcome, outlet.is_gone()))
+    ExitCode::from(conclude(&rt, &outcome, &outlet))
 }
 
 fn carry_out<R, W: Write, E: Write>(

@@ -56,3 +56,8 @@ steps_asked steps = if nat_lt 0 steps then Some steps else None
 abbrev pub NotesFile : Result Status Fault → Type 0
 NotesFile r =
     (r ≡ Err (fault.Program program.Open)) ⊎ (r ≡ Err (fault.Play (tell.Play plays.Read))) ⊎ (r ≡ Err (fault.Draw (draw.Play plays.Read)))
+
+-- its output could not be written
+abbrev pub IsUnwritten : Result Status Fault → Type 0
+IsUnwritten r =
+    (r ≡ Err (fault.Program program.Write)) ⊎ (r ≡ Err (fault.Play (tell.Play plays.Write))) ⊎ (r ≡ Err (fault.Draw (draw.Play plays.Write)))

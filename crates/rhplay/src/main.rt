@@ -8,15 +8,15 @@ mod note;
 mod status;
 mod streams;
 
-use note::note_on_play;
+use note::{note_on_play, note_on_unwritten};
 use rh_arguments::LineFault;
-use rh_cli::{FileNote, ProgramFault, Status, answer, hold_closed, tell_note, words};
+use rh_cli::{FileNote, Outlet, ProgramFault, Status, answer, hold_closed, tell_note, words};
 use rh_play_commands::{Line, NAME, line, name_called};
 use rh_play_run::Telling;
 use status::Fault;
 use std::env::Env;
 use std::fs::Files;
-use std::io::IsTerminal;
+use std::io::{self, IsTerminal, Write};
 use std::process::ExitCode;
 use streams::{draw_file, play_file};
 
@@ -36,17 +36,22 @@ fn run(
     is_terminal: bool,
 ) -> Status {
     let name = name_called(words);
+    let mut outlet = Outlet::new(io::writer(rt));
     let mut note = None;
-    let status = conclude(rt, name, &carry_out(rt, words, &mut note));
+    let outcome = carry_out(rt, &mut outlet, words, &mut note);
+    let status = conclude(rt, name, &outcome);
     if is_terminal {
+        let of_output = note_on_unwritten(rt.alloc(), &outcome, outlet.last_failure());
         tell_note(rt, name, &note);
+        tell_note(rt, name, &of_output);
     }
     status
 }
 
 // Carries out the command. What is known besides a fault is left in `note`.
-fn carry_out(
+fn carry_out<W: Write>(
     rt: &(impl Env + Files + Print + Eprint + AllocGlobal),
+    outlet: &mut Outlet<W>,
     words: &[String],
     note: &mut Option<FileNote>,
 ) -> Result<Status, Fault> {
@@ -56,10 +61,13 @@ fn carry_out(
         Err(LineFault::Memory) => return Err(Fault::Program(ProgramFault::Memory)),
     };
     let (ended, file) = match line {
-        Line::Play { file } => (play_file(rt, Telling::Orders, &file), file),
-        Line::Trace { file } => (play_file(rt, Telling::Steps, &file), file),
+        Line::Play { file } => (play_file(rt, outlet, Telling::Orders, &file), file),
+        Line::Trace { file } => (play_file(rt, outlet, Telling::Steps, &file), file),
         Line::Draw { from, steps, file } => {
-            (draw_file(rt, from as u64, steps as u64, &file), file)
+            (
+                draw_file(rt, outlet, from as u64, steps as u64, &file),
+                file,
+            )
         }
     };
     *note = note_on_play(rt, &file, &ended);

@@ -1,12 +1,14 @@
 //! What a person is told besides a fault, on a line of its own.
 
 ghost use Rattle.std.specs.Prelude.{◌≡◌, IfSome, string_bytes};
-ghost use Rattle.rhplay.specs.Endings.{NotesFile};
+ghost use Rattle.rhplay.specs.Endings.{IsUnwritten, NotesFile};
 
 use crate::status::Fault;
-use rh_cli::{FileNote, ProgramFault, Status, note_on_file};
+use rh_cli::{FileNote, ProgramFault, Status, note_on_file, note_on_output};
 use rh_play_run::{DrawFault, PlayRunFault, TellFault};
+use std::alloc::Global;
 use std::fs::Files;
+use std::io::ErrorKind;
 
 /// What is said of the file of a play that ended so: why it cannot be opened or read.
 pub fn note_on_play(
@@ -23,6 +25,25 @@ pub fn note_on_play(
             | Fault::Play(TellFault::Play(PlayRunFault::Read))
             | Fault::Draw(DrawFault::Play(PlayRunFault::Read)),
         ) => note_on_file(rt.alloc(), rt, path),
+        _ => None,
+    }
+}
+
+/// What is said of a play that ended so because its output could not be written, where the system
+/// said this of the last write.
+pub fn note_on_unwritten(
+    alloc: Global,
+    ended: &Result<Status, Fault>,
+    refused: Option<ErrorKind>,
+) -> Option<FileNote>
+    ensures { IfSome result (λ _. IsUnwritten ended.now) }
+{
+    match ended {
+        Err(
+            Fault::Program(ProgramFault::Write)
+            | Fault::Play(TellFault::Play(PlayRunFault::Write))
+            | Fault::Draw(DrawFault::Play(PlayRunFault::Write)),
+        ) => note_on_output(alloc, refused),
         _ => None,
     }
 }

@@ -15,11 +15,12 @@ use rh_cli::{ProgramFault, Status, buffered_reader, buffered_writer, finish, ope
 use rh_play_run::{Telling, draw_play, tell_play};
 use std::alloc::Global;
 use std::fs::Files;
-use std::io::{self, BufReader, BufWriter, Read, Write};
+use std::io::{BufReader, BufWriter, Read, Write};
 
-/// Runs the play at the path, and writes so much of it to standard output.
-pub fn play_file(
-    rt: &(impl Files + Print + AllocGlobal),
+/// Runs the play at the path, and writes so much of it to this writer.
+pub fn play_file<W: Write + Drop>(
+    rt: &(impl Files + AllocGlobal),
+    output: W,
     telling: Telling,
     path: &str,
 ) -> Result<Status, Fault>
@@ -28,7 +29,7 @@ pub fn play_file(
 {
     let alloc = rt.alloc();
     let reader = buffered_file(rt, path)?;
-    let Ok(writer) = buffered_writer(alloc, io::writer(rt)) else {
+    let Ok(writer) = buffered_writer(alloc, output) else {
         return Err(Fault::Program(ProgramFault::Memory));
     };
     let (ended, _writer) = play_out(alloc, telling, &mut Counted::new(reader), writer);
@@ -57,9 +58,11 @@ fn play_out<R: Read, W: Write + Drop>(
     )
 }
 
-/// Draws the play at the path: so many steps from this number on, where 0 stands for all.
-pub fn draw_file(
-    rt: &(impl Files + Print + AllocGlobal),
+/// Draws the play at the path to this writer: so many steps from this number on, where 0 stands for
+/// all.
+pub fn draw_file<W: Write + Drop>(
+    rt: &(impl Files + AllocGlobal),
+    output: W,
     from: u64,
     steps: u64,
     path: &str,
@@ -70,7 +73,7 @@ pub fn draw_file(
 {
     let alloc = rt.alloc();
     let reader = buffered_file(rt, path)?;
-    let Ok(writer) = buffered_writer(alloc, io::writer(rt)) else {
+    let Ok(writer) = buffered_writer(alloc, output) else {
         return Err(Fault::Program(ProgramFault::Memory));
     };
     let steps = steps_asked(steps);

@@ -13,7 +13,8 @@ use rh_cli::{
 use rh_commands::line::{Line, line};
 use rh_runner::Single;
 use rh_set_program::{
-    Fault, Note, Output, check_file, conclude, dump_streams, note_on_check, note_on_dump, run_by,
+    Fault, Note, Output, check_file, conclude, dump_streams, note_on_check, note_on_dump,
+    note_on_unwritten, run_by,
 };
 use rh_threads::Threads;
 use std::cell::RefCell;
@@ -37,7 +38,9 @@ fn main(rt: HostRuntime) -> ExitCode {
     progress.get_mut().clear();
     let status = conclude(&rt, &outcome);
     if is_terminal {
+        let of_output = note_on_unwritten(rt.alloc(), &outcome, outlet.last_failure());
         tell_note(&rt, "rhset", &note);
+        tell_note(&rt, "rhset", &of_output);
     }
     ExitCode::from(status)
 }
