@@ -107,16 +107,15 @@ abbrev pub TellsPack : (path : Option (List ℕ)) → PackFault → Fault → Ty
 TellsPack path (pack.Text f) told = TellsInput path (input.Text f) told
 TellsPack path pack.Write told = told ≡ fault.Program program.Write
 
--- of standard input that was listed
-abbrev pub TellsKeys : ListFault → Fault → Type 0
-TellsKeys (list.Keys f) told = TellsInput None (input.Keys f) told
-TellsKeys list.Write told = told ≡ fault.Program program.Write
+abbrev pub TellsKeys : (path : Option (List ℕ)) → ListFault → Fault → Type 0
+TellsKeys path (list.Keys f) told = TellsInput path (input.Keys f) told
+TellsKeys path list.Write told = told ≡ fault.Program program.Write
 
-abbrev pub TellsHeld : HeldFault → Fault → Type 0
-TellsHeld (held.Snap f) told = TellsInput None (input.Snap f) told
-TellsHeld held.Write told = told ≡ fault.Program program.Write
+abbrev pub TellsHeld : (path : Option (List ℕ)) → HeldFault → Fault → Type 0
+TellsHeld path (held.Snap f) told = TellsInput path (input.Snap f) told
+TellsHeld path held.Write told = told ≡ fault.Program program.Write
 
--- of a file that was listed
+-- of one of several files that were listed
 abbrev pub TellsFile : (path : Option (List ℕ)) → FileFault → Fault → Type 0
 TellsFile path (file.Shelf f) told = TellsInput path (input.Open f) told
 TellsFile path (file.Keys f) told = TellsInput path (input.Keys f) told

@@ -7,7 +7,7 @@
 //!
 //! - `Fault::status`, `tell`, `conclude`: the exit status of each fault, by the table
 //!   `specs/Endings.antt`.
-//! - `pack_streams`, `list_input`, `list_paths`, `plan_streams`: done, or by what the work told, by
+//! - `pack_streams`, `list_streams`, `list_paths`, `plan_streams`: done, or by what the work told, by
 //!   a failed write, by want of memory for a buffer, or because a file was not opened. Of readers
 //!   and writers whose bytes are known: what the work told is told, and comes before a failed
 //!   write; all stands in the writer itself where the command is done.
@@ -16,8 +16,8 @@
 //!   part that is too full it is told how many parts would do, where the size asks for more.
 //! - `workers_of`: as many workers as were asked for, and else at least one and no more than a run
 //!   may have.
-//! - `with_path`, `told_of_list` and all of these: the very fault is told of what was read, with its path where one
-//!   was named, and a reason that fits; want of memory and a failed write are told by themselves,
+//! - `with_path`, `told_of_list` and all of these: the very fault is told of what was read, with its
+//!   path where one was named, and a reason that fits; want of memory and a failed write are told by themselves,
 //!   with no path (`specs/Told.antt`).
 //!
 //! What real files and streams give and take no contract says.
@@ -35,4 +35,4 @@ pub use inputs::is_input_again;
 pub use lists::{bytes_of, times_named, told_of_list, with_path, workers_of};
 pub use splitting::{plan_streams, split_streams};
 pub use status::{conclude, tell};
-pub use streams::{list_input, list_paths, pack_streams};
+pub use streams::{list_paths, list_streams, pack_streams};

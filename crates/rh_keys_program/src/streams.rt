@@ -96,27 +96,52 @@ fn packing(files: &impl Files, place: Place, outcome: Result<(), PackFault>) -> 
     }
 }
 
-/// Lists what stands on standard input to standard output.
-pub fn list_input<W: Write>(
+/// Lists what stands there to standard output.
+pub fn list_streams<W: Write>(
     rt: &(impl Files + Input + AllocGlobal),
     outlet: &mut Outlet<W>,
     form: Form,
+    place: Place,
     progress: &mut impl Progress,
 ) -> Result<Status, Fault>
-    ensures keys { form ≡ Form.Keys → EndsBy TellsKeys Fault.Program result }
-    ensures held { form ≡ Form.Snapshot → EndsBy TellsHeld Fault.Program result }
+    ensures keys { form ≡ Form.Keys →
+        EndsReading (TellsKeys (path_of place)) (path_of place) result }
+    ensures held { form ≡ Form.Snapshot →
+        EndsReading (TellsHeld (path_of place)) (path_of place) result }
+{
+    let Some(path) = place.file() else {
+        let reader = Watched::new(rt.reader(), progress);
+        return list_from(rt, reader, outlet, form, place);
+    };
+    match FileShelf::new(rt).fetch(rt.alloc(), path) {
+        Ok(file) => list_from(rt, Watched::new(file, progress), outlet, form, place),
+        Err(fault) => Err(told_of_input(rt, place, InputFault::Open(fault))),
+    }
+}
+
+/// Lists what the reader has, which stands there. It goes through buffers.
+fn list_from<R: Read + Drop, W: Write>(
+    rt: &(impl Files + AllocGlobal),
+    reader: R,
+    outlet: &mut Outlet<W>,
+    form: Form,
+    place: Place,
+) -> Result<Status, Fault>
+    ensures keys { form ≡ Form.Keys → EndsBy (TellsKeys (path_of place)) Fault.Program result }
+    ensures held { form ≡ Form.Snapshot →
+        EndsBy (TellsHeld (path_of place)) Fault.Program result }
 {
     let alloc = rt.alloc();
     let (Ok(reader), Ok(writer)) = (
-        buffered_reader(alloc, Watched::new(rt.reader(), progress)),
+        buffered_reader(alloc, reader),
         buffered_writer(alloc, outlet),
     ) else {
         return Err(Fault::Program(ProgramFault::Memory));
     };
     let mut reader = Counted::new(reader);
     let (ended, _writer) = match form {
-        Form::Keys => list_out(rt, &mut reader, writer),
-        Form::Snapshot => list_held_out(rt, &mut reader, writer),
+        Form::Keys => list_out(rt, place, &mut reader, writer),
+        Form::Snapshot => list_held_out(rt, place, &mut reader, writer),
     };
     ended
 }
@@ -125,10 +150,11 @@ pub fn list_input<W: Write>(
 /// holds.
 fn list_out<R: Read, W: Write + Drop>(
     rt: &(impl Files + AllocGlobal),
+    place: Place,
     reader: &mut Counted<R>,
     writer: BufWriter<W>,
 ) -> (Result<Status, Fault>, BufWriter<W>)
-    ensures { EndsWith {X = ⊤} W.contents TellsKeys Fault.Program
+    ensures { EndsWith {X = ⊤} W.contents (TellsKeys (path_of place)) Fault.Program
         (λ out r. Lists (R.remaining (inner_of reader.old)) (R.remaining (inner_of reader.new))
         (writer_contents W.contents writer) out r)
         result }
@@ -136,23 +162,19 @@ fn list_out<R: Read, W: Write + Drop>(
     let mut writer = Counted::new(writer);
     let listed = list_keys(rt.alloc(), reader, &mut writer);
     finish(
-        listing(rt, listed),
+        listing(rt, place, listed),
         writer.into_inner(),
         Fault::Program(ProgramFault::Write),
     )
 }
 
-/// What came of the listing of a key file on standard input, told as by the program.
-fn listing(files: &impl Files, outcome: Result<(), ListFault>) -> Result<(), Fault>
-    ensures { ToldAs TellsKeys outcome result }
+/// What came of the listing of a key file, told as by the program.
+fn listing(files: &impl Files, place: Place, outcome: Result<(), ListFault>) -> Result<(), Fault>
+    ensures { ToldAs (TellsKeys (path_of place)) outcome result }
 {
     match outcome {
         Ok(()) => Ok(()),
-        Err(ListFault::Keys(fault)) => Err(told_of_input(
-            files,
-            Place::Input,
-            InputFault::Keys(fault),
-        )),
+        Err(ListFault::Keys(fault)) => Err(told_of_input(files, place, InputFault::Keys(fault))),
         Err(ListFault::Write) => Err(Fault::Program(ProgramFault::Write)),
     }
 }
@@ -160,10 +182,11 @@ fn listing(files: &impl Files, outcome: Result<(), ListFault>) -> Result<(), Fau
 /// The same of a snapshot.
 fn list_held_out<R: Read, W: Write + Drop>(
     rt: &(impl Files + AllocGlobal),
+    place: Place,
     reader: &mut Counted<R>,
     writer: BufWriter<W>,
 ) -> (Result<Status, Fault>, BufWriter<W>)
-    ensures { EndsWith {X = ⊤} W.contents TellsHeld Fault.Program
+    ensures { EndsWith {X = ⊤} W.contents (TellsHeld (path_of place)) Fault.Program
         (λ out r. ListsHeld (R.remaining (inner_of reader.old)) (R.remaining (inner_of reader.new))
         (writer_contents W.contents writer) out r)
         result }
@@ -171,23 +194,23 @@ fn list_held_out<R: Read, W: Write + Drop>(
     let mut writer = Counted::new(writer);
     let listed = list_snapshot(rt.alloc(), reader, &mut writer);
     finish(
-        listing_held(rt, listed),
+        listing_held(rt, place, listed),
         writer.into_inner(),
         Fault::Program(ProgramFault::Write),
     )
 }
 
-/// What came of the listing of a snapshot on standard input, told as by the program.
-fn listing_held(files: &impl Files, outcome: Result<(), HeldFault>) -> Result<(), Fault>
-    ensures { ToldAs TellsHeld outcome result }
+/// What came of the listing of a snapshot, told as by the program.
+fn listing_held(
+    files: &impl Files,
+    place: Place,
+    outcome: Result<(), HeldFault>,
+) -> Result<(), Fault>
+    ensures { ToldAs (TellsHeld (path_of place)) outcome result }
 {
     match outcome {
         Ok(()) => Ok(()),
-        Err(HeldFault::Snap(fault)) => Err(told_of_input(
-            files,
-            Place::Input,
-            InputFault::Snap(fault),
-        )),
+        Err(HeldFault::Snap(fault)) => Err(told_of_input(files, place, InputFault::Snap(fault))),
         Err(HeldFault::Write) => Err(Fault::Program(ProgramFault::Write)),
     }
 }

@@ -13,7 +13,7 @@ use rh_cli::{Outlet, ProgramFault, ProgressLine, Status, answer, hold_closed, wo
 use rh_key_commands::line::{Line, line, meant};
 use rh_key_texts::Form;
 use rh_keys_program::{
-    Fault, Place, bytes_of, conclude, list_input, list_paths, pack_streams, plan_streams,
+    Fault, Place, bytes_of, conclude, list_paths, list_streams, pack_streams, plan_streams,
     split_streams,
 };
 use rh_splitting::{Source, is_name};
@@ -80,12 +80,12 @@ where
         }
         Ok(Line::List { snapshot, files }) => {
             let form = if snapshot { Form::Snapshot } else { Form::Keys };
-            if files.is_empty() {
-                progress.expect(Place::Input.size(rt));
-                list_input(rt, outlet, form, progress)
-            } else {
-                list_paths(rt, outlet, files, form)
+            if files.len() > 1 {
+                return list_paths(rt, outlet, files, form);
             }
+            let place = Place::of(files);
+            progress.expect(place.size(rt));
+            list_streams(rt, outlet, form, place, progress)
         }
         Ok(
             Line::Split {

@@ -83,7 +83,8 @@ pub const COUNT: &str = "Write how many numbers that are, and not the numbers";
 pub const PACKED: &str = "Write a key file, and not a text";
 
 /// The argument `--skip`.
-pub const SKIP: &str = "Pass by the first N lines of each text, as a heading is; their line feeds count";
+pub const SKIP: &str =
+    "Pass by the first N lines of each text, as a heading is; their line feeds count";
 
 /// The argument FILE of a command on lists.
 pub const LIST_FILES: &str = "Texts of numbers or key files; - is standard input";
@@ -165,7 +166,7 @@ one a line, in decimal digits and in their order: those of each file after those
 before.";
 
 /// The argument FILE.
-pub const FILES: &str = "Key files, or snapshots; standard input where none is named";
+pub const FILES: &str = "Key files, or snapshots; - alone or none: standard input";
 
 /// The flag `--snapshot`.
 pub const SNAPSHOT: &str = "Read snapshots, and write the keys of each in rising order";
