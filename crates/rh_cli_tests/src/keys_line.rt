@@ -55,6 +55,7 @@ fn split_of(alloc: Global, words: &[&str]) -> Result<Option<(usize, bool, bool, 
                 key_file,
                 plan,
                 name,
+                skip: _skip,
                 files: _files,
             } => Some((parts, key_file, plan, name)),
             Line::Combine { .. } | Line::Check { .. } | Line::Pack { .. } | Line::List { .. } =>
@@ -62,6 +63,40 @@ fn split_of(alloc: Global, words: &[&str]) -> Result<Option<(usize, bool, bool, 
         },
         Err(_fault) => None,
     })
+}
+
+// How many lines are passed by, of words that read texts.
+fn skip_of(alloc: Global, words: &[&str]) -> Result<Option<usize>, Fail> {
+    Ok(match line_of(alloc, words)? {
+        Ok(line) => match line {
+            Line::Combine { skip, .. }
+            | Line::Check { skip, .. }
+            | Line::Pack { skip, .. }
+            | Line::Split { skip, .. } => Some(skip),
+            Line::List { .. } => None,
+        },
+        Err(_fault) => None,
+    })
+}
+
+const SKIPS: &[(&[&str], usize)] = &[
+    (&["union", "a"], 0),
+    (&["union", "--skip", "1", "a"], 1),
+    (&["xor", "a", "b", "--skip=1000000000"], 1_000_000_000),
+    (&["check", "--skip", "2"], 2),
+    (&["check", "a"], 0),
+    (&["pack", "--skip", "3", "a"], 3),
+    (&["pack"], 0),
+    (&["split", "a", "--skip", "4"], 4),
+    (&["split", "a", "b"], 0),
+];
+
+#[test]
+fn lines_are_passed_by(rt: HostRuntime) -> Result<(), Fail> {
+    for &(words, skip) in SKIPS {
+        assert_eq!(rt; skip_of(rt.alloc(), words)?, Some(skip), "{words:?}");
+    }
+    Ok(())
 }
 
 const LISTINGS: &[(&[&str], (bool, bool))] = &[
@@ -156,6 +191,9 @@ const MISTAKES: &[&[&str]] = &[
     &["pack", "a", "b"],
     &["pack", "--snapshot"],
     &["check", "--count", "a"],
+    &["check", "--skip", "1000000001", "a"],
+    &["union", "--skip", "-1", "a"],
+    &["list", "--skip", "1", "a"],
     &["list", "--keys"],
     &["list", "--snapshot=true"],
     &["list", "--snapshot", "--snapshot"],
