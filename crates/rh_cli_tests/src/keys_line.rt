@@ -36,11 +36,18 @@ fn listing_of(alloc: Global, words: &[&str]) -> Result<Option<(bool, bool)>, Fai
 fn files_of(alloc: Global, words: &[&str]) -> Result<Option<Vec<String>>, Fail> {
     Ok(match line_of(alloc, words)? {
         Ok(line) => match line {
-            Line::Check { files, .. }
-            | Line::List { files, .. }
-            | Line::Pack { files, .. }
-            | Line::Split { files, .. } => Some(files),
-            Line::Combine { .. } => None,
+            Line::Check { files, skip: _skip } => Some(files),
+            Line::List {
+                files,
+                snapshot: _snapshot,
+            } => Some(files),
+            Line::Pack { files, skip: _skip } => Some(files),
+            Line::Split {
+                files,
+                name: _name,
+                ..
+            } => Some(files),
+            Line::Combine { files: _files, .. } => None,
         },
         Err(_fault) => None,
     })
@@ -58,8 +65,10 @@ fn split_of(alloc: Global, words: &[&str]) -> Result<Option<(usize, bool, bool, 
                 skip: _skip,
                 files: _files,
             } => Some((parts, key_file, plan, name)),
-            Line::Combine { .. } | Line::Check { .. } | Line::Pack { .. } | Line::List { .. } =>
-                None,
+            Line::Combine { files: _files, .. } => None,
+            Line::Check { files: _files, .. } => None,
+            Line::Pack { files: _files, .. } => None,
+            Line::List { files: _files, .. } => None,
         },
         Err(_fault) => None,
     })
