@@ -1,22 +1,20 @@
 -- What comes of lists whose numbers stand in a range, and of the parts of the range.
-use Rattle.std.proofs.Common.{◌≡◌, ◌∙◌, ap, sym, subst, refl, ℕ, zero, suc, ◌+◌, ◌-◌, ◌*◌, ◌^◌, ◌<◌, ◌≤◌, inl, inr, arith, Bool, true, false, List, [], ◌∷◌, ◌++◌, length, take, get_or, Option, Some}
-use Rattle.std.specs.Prelude.{map, nat_lt, not, sum_by, ◌&&◌, ◌||◌, ◌==◌, All, IfSome}
+use Rattle.std.proofs.Common.{◌≡◌, ◌∙◌, ap, sym, subst, refl, ℕ, zero, suc, ◌+◌, ◌-◌, ◌*◌, ◌^◌, ◌<◌, ◌≤◌, inl, inr, arith, Bool, true, false, List, [], ◌∷◌, ◌++◌, length, take, get_or}
+use Rattle.std.specs.Prelude.{map, nat_lt, not, sum_by, ◌&&◌, ◌||◌, ◌==◌, All}
 use Rattle.std.specs.List.{flat_map, list_any}
 use Rattle.std.specs.List.Sorted.{IsStrictlySortedBy}
 use Rattle.std.specs.Ordering.{eq_by_cmp, nat_cmp}
 use Rattle.std.specs.FinSet as set
 use Rattle.std.specs.FinSet.{contains}
 use Rattle.std.proofs.Math.Nat.{add-mul}
-use Rattle.std.proofs.Math.Pow.{pow_mono}
 use Rattle.std.proofs.lemmas.Bool.{cases_lt, le-ltb, lt-ltb, or_left, or_right}
 use Rattle.std.proofs.lemmas.List.{map-append, take_more}
 use Rattle.std.proofs.lemmas.List.Concat.{length-flat_map}
 use Rattle.std.proofs.lemmas.List.Elements.{filter_passes}
 use Rattle.std.proofs.lemmas.List.Folds.{list_any-append}
 use Rattle.rh_edit.proofs.SetLemmas.{len-from_list}
-use Rattle.rh_grow.specs.Growth.{Fits, IsCapacity}
 use Rattle.rh_layout.specs.Key.{IsKey}
-use Rattle.rh_layout.specs.declared.limits.TheConstants.{MAX_KEY, MIN_BITS}
+use Rattle.rh_layout.specs.declared.limits.TheConstants.{MAX_KEY}
 use Rattle.rh_layout.specs.Layout.{Keys}
 use Rattle.rh_combine.specs.declared.cut.Grid.{Grid}
 use Rattle.rh_combine.specs.declared.how.How.{How}
@@ -91,9 +89,6 @@ module _ {X : Type 0} (f : X → List ℕ) where
   len-total xs =
       let all : meant Union (map f xs) ≡ set.from_list (flat_map f xs) = same _ _ (λ q. stands_is q Union (map f xs) ∙ spread q xs ∙ sym (listed (flat_map f xs) q)) in
       omega (arith, ap set.len all, len-from_list (flat_map f xs), length-flat_map f xs)
-
-pub room_of_bits : (b n : ℕ) → MIN_BITS ≤ b → Fits b n → n + 1 < 2 ^ b
-room_of_bits b n least fits = let eight : 2 ^ 3 ≤ 2 ^ b = pow_mono {j = b} least in omega (arith, fits, eight)
 
 -- ---- the parts of a range
 
@@ -191,12 +186,8 @@ within_more f a c a' c' xs i d inside before last low high =
 
 -- ---- what the work on a range needs
 
-pub room_by_total : {X : Type 0} (f : X → List ℕ) (xs : List X) (limit n b : ℕ) (found : Option ℕ) → n ≤ limit → (n ≤ limit → sum_by (λ x. length (f x)) xs ≡ n) → found ≡ Some b → IfSome found (IsCapacity MIN_BITS (0 + n)) → set.len (meant Union (map f xs)) + 1 < 2 ^ b
-room_by_total f xs limit n b found few total is capacity =
-    let cap : IsCapacity MIN_BITS (0 + n) b = rw is at capacity in
-    let zero_more : 0 + n ≡ n = omega arith in
-    let fits : Fits b n = rw zero_more at cap.fits in
-    omega (arith, room_of_bits b n cap.no_less fits, len-total f xs, total few)
+pub few_by_total : {X : Type 0} (f : X → List ℕ) (xs : List X) (limit n : ℕ) → n ≤ limit → (n ≤ limit → sum_by (λ x. length (f x)) xs ≡ n) → set.len (meant Union (map f xs)) ≤ n
+few_by_total f xs limit n few total = omega (arith, len-total f xs, total few)
 
 pub part_within_by : (grid : Grid) (p a c : ℕ) (lists there : List (List ℕ)) → a ≡ edge grid p → c ≡ edge grid (p + 1) → there ≡ map (in_part grid p) lists → AllWithin a c there
 part_within_by grid p a c lists there first last is =

@@ -1,19 +1,23 @@
 -- What the loops over lists make of the sets in a table, and the room that they need.
-use Rattle.std.proofs.Common.{◌≡◌, ◌∙◌, ap, sym, refl, ℕ, suc, ◌+◌, ◌^◌, ◌<◌, arith, Bool, true, false, List, [], ◌∷◌, ◌++◌, length, take, drop, drop-cons, get_or}
-use Rattle.std.specs.Prelude.{map, not, ◌&&◌, ◌||◌, ◌==◌}
+use Rattle.std.proofs.Common.{◌≡◌, ◌∙◌, ap, sym, refl, ℕ, suc, ◌+◌, ◌^◌, ◌<◌, ◌≤◌, arith, Bool, true, false, List, [], ◌∷◌, ◌++◌, length, take, drop, drop-cons, get_or}
+use Rattle.std.specs.Prelude.{map, min, not, ◌&&◌, ◌||◌, ◌==◌}
 use Rattle.std.specs.List.{list_any}
 use Rattle.std.specs.Ordering.{nat_cmp}
 use Rattle.std.specs.FinSet as set
 use Rattle.std.specs.FinSet.{contains, contains-empty}
-use Rattle.std.proofs.lemmas.Bool.{eqb-true, or_left, or_right}
+use Rattle.std.proofs.Math.Pow.{pow_mono}
+use Rattle.std.proofs.lemmas.Bool.{and_parts, eqb-true, or_left, or_right}
 use Rattle.std.proofs.lemmas.List.{length-map, length-take, map-append, take-append-drop, take_more}
 use Rattle.std.proofs.lemmas.List.Folds.{list_any-append, list_any_more}
 use Rattle.std.proofs.lemmas.List.Sums.{fold_push}
+use Rattle.rh_edit.proofs.SetLemmas.{len-from_list}
+use Rattle.rh_grow.specs.Growth.{IsCapacity}
 use Rattle.rh_layout.specs.Layout.{Keys}
+use Rattle.rh_layout.specs.declared.limits.TheConstants.{MIN_BITS}
 use Rattle.rh_combine.specs.declared.how.How.{How}
 use Rattle.rh_combine.specs.declared.how.How.TheVariants.{Intersect, Union, Subtract, Xor}
 use Rattle.rh_combine.specs.Combine.{has, meant, with_list}
-use Rattle.rh_combine.specs.Table.{HasRoom}
+use Rattle.rh_combine.specs.Table.{HasAtMost, HasRoom, IsSizedAfter, TakesLater, first_count}
 use Rattle.rh_combine.proofs.Meaning.{contains-with_list, either, has_some, listed, out, put, same, stands_is}
 use Rattle.rh_combine.proofs.Rising.{IsPart, len-part}
 
@@ -49,6 +53,12 @@ intersect_none S = same _ _ (λ q. contains-empty nat_cmp q ∙ sym (contains-wi
 
 pub xor_none : (S : Keys) → S ≡ with_list Xor S []
 xor_none S = same _ _ (λ q. sym (contains-with_list Xor S [] q ∙ xor_false (contains S q)))
+
+union_first : (keys : List ℕ) → with_list Union none_set keys ≡ set.from_list keys
+union_first keys = same _ _ (λ q. contains-with_list Union none_set keys q ∙ ap (λ b. b || has keys q) (contains-empty nat_cmp q) ∙ sym (listed keys q))
+
+pub union_at_first : (S : Keys) (keys : List ℕ) → S ≡ none_set → with_list Union S keys ≡ set.from_list keys
+union_at_first S keys none = ap (λ (T : Keys). with_list Union T keys) none ∙ union_first keys
 
 -- ---- a number more of the list
 
@@ -225,10 +235,52 @@ room_on how bits b i S T keys is same_bits room =
     let few = len-part (with_list how S (take i keys)) (with_list Union S keys) (front_part how S keys i) in
     rw (same_bits, is) (omega (arith, room, few))
 
-pub room_to_see : (bits b i : ℕ) (S T : Keys) (keys : List ℕ) → T ≡ set.from_list (take i keys) → b ≡ bits → HasRoom bits S keys → set.len T + 1 < 2 ^ b
-room_to_see bits b i S T keys is same_bits room =
-    let few = len-part (set.from_list (take i keys)) (with_list Union S keys) (λ q e. contains-with_list Union S keys q ∙ or_right (contains S q) (has keys q) (has_front keys i q (sym (listed (take i keys) q) ∙ e))) in
-    rw (same_bits, is) (omega (arith, room, few))
+-- the least size for so many numbers leaves a cell free
+pub room_of_size : (n b : ℕ) → IsCapacity MIN_BITS n b → n + 1 < 2 ^ b
+room_of_size n b size = let eight : 2 ^ 3 ≤ 2 ^ b = pow_mono {j = b} size.no_less in omega (arith, size.fits, eight)
+
+-- a table for so many different numbers, or for as many as the list has, takes what was seen of it
+pub room_to_see : (most bits b i : ℕ) (S T : Keys) (keys : List ℕ) → T ≡ set.from_list (take i keys) → b ≡ bits → HasAtMost most S keys → (n : ℕ) → n ≡ min most (length keys) → IsCapacity MIN_BITS n bits → set.len T + 1 < 2 ^ b
+room_to_see most bits b i S T keys is same_bits few n lesser size =
+    let part = len-part (set.from_list (take i keys)) (with_list Union S keys) (λ q e. contains-with_list Union S keys q ∙ or_right (contains S q) (has keys q) (has_front keys i q (sym (listed (take i keys) q) ∙ e))) in
+    rw (same_bits, is) (omega (arith, few, part, len-from_list (take i keys), length-take i keys, lesser, room_of_size n bits size))
+
+-- a table for the lesser of a set and a list takes what both have
+pub room_for_both : (bits b i : ℕ) (S T : Keys) (keys : List ℕ) → T ≡ with_list Intersect S (take i keys) → b ≡ bits → (n : ℕ) → n ≡ min (set.len S) (length keys) → IsCapacity MIN_BITS n bits → set.len T + 1 < 2 ^ b
+room_for_both bits b i S T keys is same_bits n lesser size =
+    let both : (q : ℕ) → contains (with_list Intersect S (take i keys)) q ≡ true → (contains S q && has (take i keys) q) ≡ true = λ q e. sym (contains-with_list Intersect S (take i keys) q) ∙ e in
+    let of_set = len-part (with_list Intersect S (take i keys)) S (λ q e. (and_parts (contains S q) (has (take i keys) q) (both q e)).0) in
+    let of_list = len-part (with_list Intersect S (take i keys)) (set.from_list (take i keys)) (λ q e. listed (take i keys) q ∙ (and_parts (contains S q) (has (take i keys) q) (both q e)).1) in
+    rw (same_bits, is) (omega (arith, of_set, of_list, len-from_list (take i keys), length-take i keys, lesser, room_of_size n bits size))
+
+-- a set has no more than it has with a list
+pub len-before : (S : Keys) (keys : List ℕ) → set.len S ≤ set.len (with_list Union S keys)
+len-before S keys = len-part S (with_list Union S keys) (λ q e. contains-with_list Union S keys q ∙ or_left (contains S q) (has keys q) e)
+
+-- the table of the first list takes it
+enough : (how : How) (most many : ℕ) → min most many ≤ first_count how most many
+enough Intersect most many = omega arith
+enough Union most many = omega arith
+enough Subtract most many = omega arith
+enough Xor most many = omega arith
+
+pub room_at_first : (how : How) (most many bits b : ℕ) (S : Keys) (keys : List ℕ) → S ≡ none_set → b ≡ bits → many ≡ first_count how most (length keys) → HasAtMost most none_set keys → IsCapacity MIN_BITS many bits → HasRoom b S keys
+room_at_first how most many bits b S keys none same_bits is few size =
+    let all = ap (λ (T : Keys). set.len T) (union_first keys) in
+    rw (none, same_bits) (omega (arith, all, few, len-from_list keys, room_of_size many bits size, is, enough how most (length keys)))
+
+-- and those behind it
+pub takes_later : (how : How) (most many bits : ℕ) → IsCapacity MIN_BITS (first_count how most many) bits → TakesLater how most bits
+takes_later Intersect most many bits size = tt
+takes_later Union most many bits size = room_of_size _ _ size
+takes_later Subtract most many bits size = tt
+takes_later Xor most many bits size = room_of_size _ _ size
+
+pub takes_still : (how : How) (most old bits : ℕ) (S : Keys) (keys : List ℕ) → IsSizedAfter how old S keys bits → TakesLater how most old → TakesLater how most bits
+takes_still Intersect most old bits S keys size takes = tt
+takes_still Union most old bits S keys size takes = rw size takes
+takes_still Subtract most old bits S keys size takes = tt
+takes_still Xor most old bits S keys size takes = rw size takes
 
 -- and for the next number, which is flipped
 module _ (bits b i : ℕ) (S T : Keys) (keys : List ℕ) (inside : i < length keys) (is : T ≡ with_list Xor S (take i keys)) (same_bits : b ≡ bits) where
@@ -253,9 +305,6 @@ module _ (bits b i : ℕ) (S T : Keys) (keys : List ℕ) (inside : i < length ke
       rw (same_bits, is) (omega (arith, room, few))
 
 -- ---- the lists behind slices
-
-union_first : (keys : List ℕ) → with_list Union none_set keys ≡ set.from_list keys
-union_first keys = same _ _ (λ q. contains-with_list Union none_set keys q ∙ ap (λ b. b || has keys q) (contains-empty nat_cmp q) ∙ sym (listed keys q))
 
 meant_more : (how : How) (lists : List (List ℕ)) (keys : List ℕ) → 0 < length lists → meant how (lists ++ keys ∷ []) ≡ with_list how (meant how lists) keys
 meant_more how [] keys some = absurd (omega (arith, some))
@@ -296,16 +345,17 @@ module _ {X : Type 0} (f : X → List ℕ) (xs : List X) (i : ℕ) (d : X) (insi
       stands_is q Union (map f xs)
       ∙ in_all q (both_in how q (contains (meant how before) q) refl (sym (contains-with_list Union (meant how before) next q) ∙ e))
 
-  -- room for all lists is room for one list more
-  pub room_for_slice : (bits b : ℕ) (how : How) (S : Keys) → b ≡ bits → S ≡ meant how before → set.len (meant Union (map f xs)) + 1 < 2 ^ bits → HasRoom b S next
-  room_for_slice bits b how S same_bits is room =
-      let few = len-part _ _ (one_more_part how) in
-      rw (same_bits, is) (omega (arith, room, few))
+  -- what all lists have at most, one of them has, and what was made of those before it with it
+  pub few_in_slice : (most : ℕ) (how : How) (S : Keys) → S ≡ meant how before → set.len (meant Union (map f xs)) ≤ most → HasAtMost most S next
+  few_in_slice most how S is few = let part = len-part _ _ (one_more_part how) in rw is (omega (arith, few, part))
 
-  pub first_slice : (how : How) (S T : Keys) → i ≡ 0 → S ≡ meant how before → T ≡ with_list Union S next → T ≡ meant how (map f (take (i + 1) xs))
-  first_slice how S T first is more =
-      more ∙ ap (λ (U : Keys). with_list Union U next) (is ∙ ap (λ n. meant how (map f (take n xs))) first) ∙ union_first next
-      ∙ sym (ap (meant how) (lists_more ∙ ap (λ n. map f (take n xs) ++ next ∷ []) first))
+  pub few_at_first : (most : ℕ) → set.len (meant Union (map f xs)) ≤ most → HasAtMost most none_set next
+  few_at_first most few =
+      let part = len-part (with_list Union none_set next) (meant Union (map f xs)) (λ q e. stands_is q Union (map f xs) ∙ in_all q (or_right (list_any (λ keys. has keys q) before) (has next q) (sym (listed next q) ∙ ap (λ (T : Keys). contains T q) (sym (union_first next)) ∙ e))) in
+      omega (arith, few, part)
+
+  pub first_slice : (how : How) (T : Keys) → i ≡ 0 → T ≡ set.from_list next → T ≡ meant how (map f (take (i + 1) xs))
+  first_slice how T first is = is ∙ sym (ap (meant how) (lists_more ∙ ap (λ n. map f (take n xs) ++ next ∷ []) first))
 
   pub later_slice : (how : How) (S T : Keys) → 0 < i → S ≡ meant how before → T ≡ with_list how S next → T ≡ meant how (map f (take (i + 1) xs))
   later_slice how S T some is more =

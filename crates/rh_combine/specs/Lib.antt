@@ -2,5 +2,5 @@
 pub mod Combine
 -- Grid: a range of numbers that is cut in parts
 pub mod Grid
--- Table: the room that a table needs for one list more
+-- Table: the tables that lists are met by, their room and their size
 pub mod Table

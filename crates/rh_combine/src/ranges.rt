@@ -11,20 +11,15 @@ use crate::crowds::is_crowded;
 use crate::cut::{Grid, cut};
 use crate::how::How;
 use crate::table::by_table;
-use rh_grow::bits_for;
-use rh_layout::{MAX_KEY, MIN_BITS};
+use rh_layout::MAX_KEY;
 use std::alloc::{AllocError, Global};
 
-/// The most keys, repeats counted, of all lists together in one table.
+/// The most keys of all lists together in one table: repeats are counted, or else all keys of the
+/// range.
 const IN_A_TABLE: usize = 24_576;
 
 /// So few keys are searched through soon, whatever their homes are.
 const FEW: usize = 256;
-
-/// A range no wider than this fits a table of so many bits, however often its keys are repeated.
-const NARROW: u64 = 1 << 14;
-
-const NARROW_BITS: u32 = 15;
 
 /// About how many keys a part shall have.
 const IN_A_PART: usize = 16_384;
@@ -182,12 +177,12 @@ fn of_lists(
 {
     let many = total(lists);
     if suits_a_table(lists, many) {
-        let bits = bits_for(MIN_BITS, 0, many as u64).unwrap();
-        return by_table(alloc, how, bits, lists);
+        return by_table(alloc, how, many, lists);
     }
     let (least, past) = extent(lists, from, to);
-    if past.saturating_sub(least) <= NARROW {
-        return by_table(alloc, how, NARROW_BITS, lists);
+    let width = past.saturating_sub(least);
+    if width <= IN_A_TABLE as u64 {
+        return by_table(alloc, how, width as usize, lists);
     }
     let grid = grid_of(least, past, many);
     let cuts = cut_all(alloc, &grid, lists)?;

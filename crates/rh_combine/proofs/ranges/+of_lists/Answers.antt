@@ -2,22 +2,22 @@ use Rattle.std.proofs.Common.{◌≡◌, ◌∙◌, ap, arith, ℕ, ◌+◌, sli
 use Rattle.std.specs.Prelude.{map}
 use Rattle.rh_combine.specs.Grid.{in_part}
 use Rattle.rh_combine.specs.declared.ranges.TheConstants.{IN_A_TABLE}
-use Rattle.rh_combine.proofs.RangeLemmas.{all_parts_by, are_keys, edge-below, edge-narrow, edge-rises, len-within, none_yet, part_more, part_within_by, room_by_total}
+use Rattle.rh_combine.proofs.RangeLemmas.{all_parts_by, are_keys, edge-below, edge-narrow, edge-rises, len-within, none_yet, part_more, part_within_by, few_by_total}
 use Rattle.rh_combine.proofs.ranges.+of_lists.Goals as goal
 
 pub by_table-requires-clause-keys : goal.by_table-requires-clause-keys
 by_table-requires-clause-keys t c = are_keys (λ k. k.now) c.args.from c.args.to c.args.lists.now c.requires.limit c.requires.range
 
-pub by_table-requires-clause-room : goal.by_table-requires-clause-room
-by_table-requires-clause-room t c = room_by_total (λ k. k.now) c.args.lists.now IN_A_TABLE c.total-many.result c.unwrap-bits.result c.bits_for.result (c.suits_a_table.ensures c.if-suits_a_table.true) c.total-many.ensures c.unwrap-bits.ensures c.bits_for.ensures.capacity
+pub by_table-requires-clause-few : goal.by_table-requires-clause-few
+by_table-requires-clause-few t c = few_by_total (λ k. k.now) c.args.lists.now IN_A_TABLE c.total-many.result (c.suits_a_table.ensures c.if-suits_a_table.true) c.total-many.ensures
 
-pub by_table-requires-then-saturating_sub-le-NARROW-clause-keys :
-    goal.by_table-requires-then-saturating_sub-le-NARROW-clause-keys
-by_table-requires-then-saturating_sub-le-NARROW-clause-keys t c = are_keys (λ k. k.now) c.args.from c.args.to c.args.lists.now c.requires.limit c.requires.range
+pub by_table-requires-then-width-clause-keys :
+    goal.by_table-requires-then-width-clause-keys
+by_table-requires-then-width-clause-keys t c = are_keys (λ k. k.now) c.args.from c.args.to c.args.lists.now c.requires.limit c.requires.range
 
-pub by_table-requires-then-saturating_sub-le-NARROW-clause-room :
-    goal.by_table-requires-then-saturating_sub-le-NARROW-clause-room
-by_table-requires-then-saturating_sub-le-NARROW-clause-room t c =
+pub by_table-requires-then-width-clause-few :
+    goal.by_table-requires-then-width-clause-few
+by_table-requires-then-width-clause-few t c =
     let few = len-within c.extent-least.result.0 c.extent-least.result.1 _ c.extent-least.ensures.all in
     omega (arith, few)
 

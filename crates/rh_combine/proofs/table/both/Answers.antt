@@ -1,18 +1,17 @@
-use Rattle.std.proofs.Common.{◌∙◌, arith, sym}
-use Rattle.rh_combine.specs.declared.how.How.TheVariants.{Intersect}
-use Rattle.rh_combine.proofs.TableLemmas.{intersect_more, intersect_none, intersect_skip, room_on}
+use Rattle.std.proofs.Common.{◌∙◌, arith, rules, sym}
+use Rattle.rh_combine.proofs.TableLemmas.{intersect_more, intersect_none, intersect_skip, room_for_both}
 use Rattle.rh_combine.proofs.table.both.Goals as goal
 use Rattle.rh_combine.proofs.table.both.Goals.{then-has, else-has}
 
 pub loop-key-init : goal.loop-key-init
 loop-key-init c = record {
-  bits = c.in_ok-found.ensures.bits ∙ c.bits.ensures.bits;
+  bits = c.in_ok-found.ensures.bits;
   keys = c.in_ok-found.ensures.keys ∙ intersect_none c.args.set.now.keys;
 }
 
 pub insert-requires-clause-room : goal.insert-requires-clause-room
 insert-requires-clause-room c =
-    room_on Intersect c.args.set.now.bits c.loop-key.found.bits c.loop-key.key-index c.args.set.now.keys c.loop-key.found.keys c.args.keys.now c.loop-key.invariant.keys c.loop-key.invariant.bits c.requires.room
+    room_for_both c.bits_of-bits.result c.loop-key.found.bits c.loop-key.key-index c.args.set.now.keys c.loop-key.found.keys c.args.keys.now c.loop-key.invariant.keys c.loop-key.invariant.bits c.min.result (search rules) c.bits_of-bits.ensures.size
 
 pub loop-key-preserved : goal.loop-key-preserved
 loop-key-preserved c =

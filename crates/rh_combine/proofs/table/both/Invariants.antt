@@ -5,6 +5,6 @@ use Rattle.rh_combine.proofs.table.both.Given as goal
 
 abbrev pub invariant-loop-key : goal.invariant-loop-key
 invariant-loop-key l = record {
-  bits : l.found.bits ≡ l.set.bits;
+  bits : l.found.bits ≡ l.bits;
   keys : l.found.keys ≡ with_list Intersect l.set.keys (take l.key-index l.keys);
 }

@@ -1,25 +1,25 @@
-use Rattle.std.proofs.Common.{◌∙◌, arith}
-use Rattle.rh_combine.proofs.TableLemmas.{first_slice, later_slice, room_for_slice}
+use Rattle.std.proofs.Common.{◌∙◌, arith, sym, subst}
+use Rattle.rh_combine.specs.Table.{TakesLater}
+use Rattle.rh_combine.proofs.TableLemmas.{few_at_first, few_in_slice, first_slice, later_slice, takes_later, takes_still}
 use Rattle.rh_combine.proofs.table.by_table.Goals as goal
-use Rattle.rh_combine.proofs.table.by_table.Goals.{then-i-eq0, else-i-eq0+in_ok-set-2}
+use Rattle.rh_combine.proofs.table.by_table.Goals.{then-i-eq0+in_ok-set-2, else-i-eq0+in_ok-set-3}
 
-pub add-requires-clause-room : goal.add-requires-clause-room
-add-requires-clause-room c =
-    room_for_slice (λ k. k.now) c.args.lists.now c.loop-i.i _ (omega arith) c.args.bits _ c.args.how _ c.loop-i.invariant.bits c.loop-i.invariant.keys c.requires.room
+pub first_set-requires-clause-few : goal.first_set-requires-clause-few
+first_set-requires-clause-few c = few_at_first (λ k. k.now) c.args.lists.now c.loop-i.i _ (omega arith) c.args.most c.requires.few
 
-pub with_list-requires-clause-room : goal.with_list-requires-clause-room
-with_list-requires-clause-room c =
-    room_for_slice (λ k. k.now) c.args.lists.now c.loop-i.i _ (omega arith) c.args.bits _ c.args.how _ c.loop-i.invariant.bits c.loop-i.invariant.keys c.requires.room
+pub with_list-requires-clause-few : goal.with_list-requires-clause-few
+with_list-requires-clause-few c =
+    few_in_slice (λ k. k.now) c.args.lists.now c.loop-i.i _ (omega arith) c.args.most c.args.how _ c.loop-i.invariant.keys c.requires.few
 
 pub loop-i-preserved : goal.loop-i-preserved
 loop-i-preserved c =
     elim c.if-i-eq0.branch [
-      | then-i-eq0 w ↦ record {
-        bits = (λ j. (w.set-is j).bits) ∙ (w.add.ensures.bits ∙ c.loop-i.invariant.bits);
-        keys = (λ j. (w.set-is j).keys) ∙ (first_slice (λ k. k.now) c.args.lists.now c.loop-i.i _ (omega arith) c.args.how _ _ w.if-i-eq0.true c.loop-i.invariant.keys w.add.ensures.keys);
+      | then-i-eq0+in_ok-set-2 w ↦ record {
+        room = λ _. subst (TakesLater c.args.how c.args.most) (sym (λ j. (w.set-is j).bits)) (takes_later c.args.how c.args.most _ _ w.in_ok-set-2.ensures.size);
+        keys = (λ j. (w.set-is j).keys) ∙ (first_slice (λ k. k.now) c.args.lists.now c.loop-i.i _ (omega arith) c.args.how _ w.if-i-eq0.true w.in_ok-set-2.ensures.keys);
       }
-      | else-i-eq0+in_ok-set-2 w ↦ record {
-        bits = (λ j. (w.set-is j).bits) ∙ (w.in_ok-set-2.ensures.bits ∙ c.loop-i.invariant.bits);
-        keys = (λ j. (w.set-is j).keys) ∙ (later_slice (λ k. k.now) c.args.lists.now c.loop-i.i _ (omega arith) c.args.how _ _ (omega (arith, w.if-i-eq0.false)) c.loop-i.invariant.keys w.in_ok-set-2.ensures.keys);
+      | else-i-eq0+in_ok-set-3 w ↦ record {
+        room = λ _. subst (TakesLater c.args.how c.args.most) (sym (λ j. (w.set-is j).bits)) (takes_still c.args.how c.args.most _ _ _ _ w.in_ok-set-3.ensures.size (c.loop-i.invariant.room (omega (arith, w.if-i-eq0.false))));
+        keys = (λ j. (w.set-is j).keys) ∙ (later_slice (λ k. k.now) c.args.lists.now c.loop-i.i _ (omega arith) c.args.how _ _ (omega (arith, w.if-i-eq0.false)) c.loop-i.invariant.keys w.in_ok-set-3.ensures.keys);
       }
     ]

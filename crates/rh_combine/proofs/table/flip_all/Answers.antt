@@ -1,4 +1,4 @@
-use Rattle.std.proofs.Common.{◌∙◌, arith, refl, sym}
+use Rattle.std.proofs.Common.{◌∙◌, arith, rules, refl, sym}
 use Rattle.rh_edit.proofs.SetLemmas.{from_list_more}
 use Rattle.rh_combine.proofs.TableLemmas.{flip_more, flip_skip, new_one, old_one, room_for_next, room_to_see, xor_none}
 use Rattle.rh_combine.proofs.table.flip_all.Goals as goal
@@ -6,7 +6,7 @@ use Rattle.rh_combine.proofs.table.flip_all.Goals.{then-insert, else-insert}
 
 pub loop-key-init : goal.loop-key-init
 loop-key-init c = record {
-  seen_bits = c.in_ok-seen.ensures.bits ∙ c.bits.ensures.bits;
+  seen_bits = c.in_ok-seen.ensures.bits;
   seen = c.in_ok-seen.ensures.keys;
   bits = refl;
   keys = xor_none c.args.set.now.keys;
@@ -14,7 +14,7 @@ loop-key-init c = record {
 
 pub insert-requires-clause-room : goal.insert-requires-clause-room
 insert-requires-clause-room c =
-    room_to_see c.args.set.now.bits c.loop-key.seen.bits c.loop-key.key-index c.args.set.now.keys c.loop-key.seen.keys c.args.keys.now c.loop-key.invariant.seen c.loop-key.invariant.seen_bits c.requires.room
+    room_to_see c.args.most c.bits_of-bits.result c.loop-key.seen.bits c.loop-key.key-index c.args.set.now.keys c.loop-key.seen.keys c.args.keys.now c.loop-key.invariant.seen c.loop-key.invariant.seen_bits c.requires.few c.min.result (search rules) c.bits_of-bits.ensures.size
 
 pub flip-requires-clause-room : goal.flip-requires-clause-room
 flip-requires-clause-room c =

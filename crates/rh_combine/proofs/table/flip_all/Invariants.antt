@@ -6,7 +6,7 @@ use Rattle.rh_combine.proofs.table.flip_all.Given as goal
 
 abbrev pub invariant-loop-key : goal.invariant-loop-key
 invariant-loop-key l = record {
-  seen_bits : l.seen.bits ≡ l.fn.set.bits;
+  seen_bits : l.seen.bits ≡ l.bits;
   seen : l.seen.keys ≡ set.from_list (take l.key-index l.keys);
   bits : l.set.bits ≡ l.fn.set.bits;
   keys : l.set.keys ≡ with_list Xor l.fn.set.keys (take l.key-index l.keys);
