@@ -83,11 +83,22 @@ fn fill(file: &mut File, block: &mut [u8]) -> usize {
     filled
 }
 
+/// The keys of a key file, of which these are the first bytes.
+fn keys_of(begun: &[u8], file: &mut File) -> Vec<u64> {
+    let mut bytes = begun.to_vec();
+    file.read_to_end(&mut bytes).expect("a read");
+    let keys: Vec<u64> = bytes[12..].chunks_exact(8).map(|eight| u64::from_be_bytes(eight.try_into().expect("eight"))).collect();
+    assert!(keys.iter().all(|key| *key <= MAX_KEY), "out of range");
+    keys
+}
+
 /// The numbers of a file, in pieces. The next block is read while the workers read the numbers of this one.
-fn read_list(path: &str, workers: usize) -> Vec<Vec<u64>> {
+fn read_list(path: &str, workers: usize, block: &mut Vec<u8>, next: &mut Vec<u8>) -> Vec<Vec<u64>> {
     let mut file = File::open(path).expect("a file");
-    let (mut block, mut next) = (vec![0; BLOCK_BYTES], vec![0; BLOCK_BYTES]);
-    let mut filled = fill(&mut file, &mut block);
+    let mut filled = fill(&mut file, block);
+    if block[..filled].starts_with(b"RHK2") {
+        return vec![keys_of(&block[..filled], &mut file)];
+    }
     let mut pieces = Vec::new();
     while filled > 0 {
         let last = filled < BLOCK_BYTES;
@@ -106,7 +117,7 @@ fn read_list(path: &str, workers: usize) -> Vec<Vec<u64>> {
                 filled
             });
         }
-        std::mem::swap(&mut block, &mut next);
+        std::mem::swap(block, next);
     }
     pieces
 }
@@ -240,7 +251,9 @@ fn lines_of(cuts: &[Vec<Vec<Vec<u64>>>], from: usize, to: usize) -> Vec<u8> {
 }
 
 fn intersect(paths: &[String], workers: usize) -> io::Result<()> {
-    let lists: Vec<_> = paths.iter().map(|path| read_list(path, workers)).collect();
+    let (mut block, mut next) = (vec![0; BLOCK_BYTES], vec![0; BLOCK_BYTES]);
+    let lists: Vec<_> = paths.iter().map(|path| read_list(path, workers, &mut block, &mut next)).collect();
+    drop((block, next));
     let total: usize = lists.iter().flatten().map(Vec::len).sum();
     let borders = borders_of(&lists);
     let cuts: Vec<_> = lists.into_iter().map(|list| cut_list(list, &borders, workers)).collect();

@@ -11,8 +11,8 @@
 //! ```
 //!
 //! Lists of more than some 24,000 numbers are cut into ranges, and these again, until the numbers
-//! of a range fit one small table. What a list is met by is no larger than the list asks for, so the
-//! bytes of all tables of a range grow as its numbers do, whatever the number of lists.
+//! of a range fit one small table. What a list is met by is no larger than the list asks for, so
+//! the bytes of all tables of a range grow as its numbers do, whatever the number of lists.
 //!
 //! Proved:
 //!

@@ -28,7 +28,8 @@ fn list_of<T: Threads + Sync>(
         alloc,
         workers: Workers { count: workers },
     };
-    let list = read_list_in_blocks(&team, block_bytes, &mut Counted::new(bytes), &mut Nobody)?;
+    let mut blocks = Blocks::up_to(alloc, block_bytes);
+    let list = read_list(&team, &mut blocks, &mut Counted::new(bytes), &mut Nobody)?;
     let mut keys = Vec::new(alloc);
     for piece in list.pieces() {
         let Ok(()) = keys.extend_from_slice(piece) else {
@@ -150,7 +151,8 @@ fn a_text_has_more_than_a_million_keys(rt: HostRuntime) -> Result<(), Fail> {
         alloc: rt.alloc(),
         workers: Workers { count: 4 },
     };
-    let list = read_list_in_blocks(&team, 100_000, &mut reader, &mut told)?;
+    let mut blocks = Blocks::up_to(rt.alloc(), 100_000);
+    let list = read_list(&team, &mut blocks, &mut reader, &mut told)?;
     let (mut count, mut last) = (0usize, 0);
     for piece in list.pieces() {
         for key in piece {
@@ -188,7 +190,8 @@ fn each_read_of_a_list_fails(rt: HostRuntime) -> Result<(), Fail> {
         };
         for n in 1..20u64 {
             let mut reader = Counted::new(FaultyReader::new(text.as_slice(), n));
-            let outcome = read_list_in_blocks(&team, 3, &mut reader, &mut Nobody);
+            let mut blocks = Blocks::up_to(rt.alloc(), 3);
+            let outcome = read_list(&team, &mut blocks, &mut reader, &mut Nobody);
             let fault = if n < 5 {
                 TextFault::Read
             } else {

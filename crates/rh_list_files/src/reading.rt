@@ -9,7 +9,7 @@ use crate::fault::{CommandFault, FileFault};
 use rh_bytes::{Counted, Progress};
 use rh_forks::Team;
 use rh_key_files::KeyFault;
-use rh_lists::{ListFault, Skipping, read_list};
+use rh_lists::{Blocks, ListFault, Skipping, read_list};
 use rh_numbers::TextFault;
 use rh_pieces::KeyList;
 use rh_shelf::Lender;
@@ -25,6 +25,7 @@ fn read_file<T: Threads + Sync, S: Lender, P: Progress>(
     shelf: &mut S,
     path: &str,
     skip: u64,
+    blocks: &mut Blocks,
     progress: &mut P,
 ) -> Result<KeyList, FileFault>
     ensures { AnswersFile (seen skip (S.state shelf.old)) (seen skip (S.state shelf.new))
@@ -32,7 +33,7 @@ fn read_file<T: Threads + Sync, S: Lender, P: Progress>(
 {
     let file = shelf.lend(team.alloc, path)?;
     let mut reader = Counted::new(Skipping::new(skip, file));
-    match read_list(team, &mut reader, progress) {
+    match read_list(team, blocks, &mut reader, progress) {
         Ok(list) => Ok(list),
         Err(fault) => {
             // Behind another fault a read may have failed too, but it is not told.
@@ -61,20 +62,22 @@ fn read_path<T: Threads + Sync, S: Lender, I: Read, P: Progress>(
     path: &str,
     skip: u64,
     input: &mut Counted<I>,
+    blocks: &mut Blocks,
     progress: &mut P,
 ) -> Result<KeyList, FileFault>
     ensures { AnswersPath I.remaining (seen skip (S.state shelf.old))
         (seen skip (S.state shelf.new)) path.now input.old input.new result }
 {
     if path == INPUT {
-        let list = read_list(team, input, progress)?;
+        let list = read_list(team, blocks, input, progress)?;
         return Ok(list);
     }
-    read_file(team, shelf, path, skip, progress)
+    read_file(team, shelf, path, skip, blocks, progress)
 }
 
 /// Reads the lists at these paths, one after the other, up to the first that has a fault. `-` is
-/// standard input, which is read once: what another `-` finds is nothing.
+/// standard input, which is read once: what another `-` finds is nothing. All are read into the
+/// same blocks.
 ///
 /// The first `skip` lines of each file that is a text are read as blank ones. The input is read as
 /// it is: whoever passes lines of it by too hands a `Skipping` over.
@@ -91,9 +94,18 @@ pub fn read_paths<T: Threads + Sync, S: Lender, I: Read, P: Progress>(
         (map string_bytes paths.now) input.old input.new result }
     ensures inside { IfErr result (IsInside (length paths.now)) }
 {
+    let mut blocks = Blocks::new(team.alloc);
     let mut lists = Vec::new(team.alloc);
     for index in 0..paths.len() {
-        match read_path(team, shelf, &paths[index], skip, input, progress) {
+        match read_path(
+            team,
+            shelf,
+            &paths[index],
+            skip,
+            input,
+            &mut blocks,
+            progress,
+        ) {
             Ok(list) => {
                 let Ok(()) = lists.push(list) else {
                     return Err(CommandFault::Memory);

@@ -3,7 +3,8 @@
 //! `rh_list_files` and `rh_borders` stand on it.
 //!
 //! ```text
-//! let list = read_list(&team, &mut Counted::new(file), &mut Nobody)?;
+//! let mut blocks = Blocks::new(alloc);
+//! let list = read_list(&team, &mut blocks, &mut Counted::new(file), &mut Nobody)?;
 //! for piece in list.pieces() { .. }
 //! ```
 //!
@@ -24,7 +25,8 @@
 //! - `lists_agree`: what two readings of the same bytes answer is the same, but for these.
 //!
 //! Memory: 8 bytes for each key and 24 for each piece, of which a text has one for each worker and
-//! block; twice as much for the pieces that are being read; and two blocks of 16 MB.
+//! block; twice as much for the pieces that are being read; and two blocks of 16 MB at the most,
+//! which all lists of a caller share (`Blocks`).
 //!
 //! For other readers no more than safety, and that count, is claimed. That the reading ends sooner
 //! by several workers is measured and not proved.
@@ -32,6 +34,7 @@
 
 mod ahead;
 mod blanks;
+mod blocks;
 mod fault;
 mod laws;
 mod limits;
@@ -41,8 +44,9 @@ mod skipping;
 mod text;
 mod workers;
 
+pub use blocks::Blocks;
 pub use fault::ListFault;
 pub use laws::lists_agree;
 pub use limits::BLOCK_BYTES;
-pub use reading::{read_list, read_list_in_blocks};
+pub use reading::read_list;
 pub use skipping::Skipping;

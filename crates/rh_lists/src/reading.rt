@@ -1,10 +1,9 @@
 //! A list, read from its bytes.
 
-ghost use Rattle.std.specs.Prelude.{◌<◌, ◌≤◌};
 ghost use Rattle.rh_lists.specs.Lists.{AnswersList};
 
+use crate::blocks::Blocks;
 use crate::fault::ListFault;
-use crate::limits::BLOCK_BYTES;
 use crate::skipping::MAGIC_BYTES;
 use crate::text::{read_short_text, read_text};
 use rh_bytes::{Counted, Filled, Progress, fill_front};
@@ -19,25 +18,14 @@ use std::thread::Threads;
 /// numbers. It has any length. What is answered does not depend on how many workers read.
 ///
 /// A text is read in blocks, and while several workers read one the caller reads the next: 32 MB at
-/// the most are held beside the keys. With one worker no thread is started.
+/// the most are held beside the keys. The blocks serve for the next list too. With one worker no
+/// thread is started.
 pub fn read_list<T: Threads + Sync, R: Read, P: Progress>(
     team: &Team<'_, T>,
+    blocks: &mut Blocks,
     reader: &mut Counted<R>,
     progress: &mut P,
 ) -> Result<KeyList, ListFault>
-    ensures { AnswersList R.remaining reader.old reader.new result }
-{
-    read_list_in_blocks(team, BLOCK_BYTES, reader, progress)
-}
-
-/// The same, where a text is read in blocks of so many bytes.
-pub fn read_list_in_blocks<T: Threads + Sync, R: Read, P: Progress>(
-    team: &Team<'_, T>,
-    block_bytes: usize,
-    reader: &mut Counted<R>,
-    progress: &mut P,
-) -> Result<KeyList, ListFault>
-    requires { (0 < block_bytes) × (block_bytes ≤ BLOCK_BYTES) }
     ensures { AnswersList R.remaining reader.old reader.new result }
 {
     let mut four = [0; MAGIC_BYTES];
@@ -54,6 +42,6 @@ pub fn read_list_in_blocks<T: Threads + Sync, R: Read, P: Progress>(
         let pieces = read_pieces(team.alloc, version, reader, progress)?;
         return Ok(KeyList::of(pieces));
     }
-    let keys = read_text(team, block_bytes, &four, reader, progress)?;
+    let keys = read_text(team, blocks, &four, reader, progress)?;
     Ok(keys)
 }

@@ -8,7 +8,8 @@ ghost use Rattle.rh_lists.specs.Parts.{AnswersText, EndsText, IsReadTo, TellsTex
 ghost use Rattle.rh_lists.specs.declared.limits.TheConstants.{BLOCK_BYTES, FIRST_BYTES};
 
 use crate::ahead::read_ahead;
-use crate::limits::{BLOCK_BYTES, FIRST_BYTES};
+use crate::blocks::{Blocks, behind, lengthen};
+use crate::limits::FIRST_BYTES;
 use crate::part::ListPart;
 use crate::workers::read_part;
 use rh_bytes::{Counted, Filled, Progress, fill_front};
@@ -32,89 +33,71 @@ pub(crate) fn read_short_text(alloc: Global, bytes: &[u8]) -> Result<KeyList, Te
     text.end_text(alloc)
 }
 
-/// Reads the rest of a text that begins so, in blocks of so many bytes. The first one is small, and
-/// read by one worker, so that a short text takes little memory and no thread.
+/// Reads the rest of a text that begins so. As long as the blocks are small the first one is, and
+/// one worker reads what is no more than that, so that a short text takes little memory and no
+/// thread.
 pub(crate) fn read_text<T: Threads + Sync, R: Read, P: Progress>(
     team: &Team<'_, T>,
-    block_bytes: usize,
+    blocks: &mut Blocks,
     begun: &[u8],
     reader: &mut Counted<R>,
     progress: &mut P,
 ) -> Result<KeyList, TextFault>
-    requires block { (0 < block_bytes) × (block_bytes ≤ BLOCK_BYTES) }
     requires begun { length begun.now ≤ FIRST_BYTES }
     ensures { AnswersText R.remaining begun.now reader.old reader.new result }
 {
     let Ok(front) = ListPart::read(team.alloc, LineSoFar::Head, begun) else {
         return Err(TextFault::Memory);
     };
-    let Ok(mut first) = vec![in team.alloc; 0u8; block_bytes.min(FIRST_BYTES)] else {
+    let Ok(()) = blocks.begin(team.alloc) else {
         return Err(TextFault::Memory);
     };
-    let Filled { count, failed } = fill_front(reader, &mut first);
+    let Filled { count, failed } = fill_front(reader, &mut blocks.block);
     progress.read(count);
-    if count < first.len() {
-        return last_block(&team.alone(), front, &first[..count], failed);
+    if count < FIRST_BYTES.min(blocks.block.len()) {
+        return last_block(&team.alone(), front, &blocks.block[..count], failed);
     }
-    let Ok(part) = ListPart::read(team.alloc, front.so_far(), &first) else {
-        return Err(TextFault::Memory);
-    };
-    let text = front.more(part)?;
-    read_on(team, block_bytes, text, reader, progress)
+    if count < blocks.block.len() {
+        return last_block(team, front, &blocks.block[..count], failed);
+    }
+    let most = blocks.most;
+    read_blocks(
+        team,
+        most,
+        front,
+        &mut blocks.block,
+        &mut blocks.next,
+        reader,
+        progress,
+    )
 }
 
-/// Reads the rest of a text of which so much is read, in blocks of so many bytes.
-fn read_on<T: Threads + Sync, R: Read, P: Progress>(
-    team: &Team<'_, T>,
-    block_bytes: usize,
-    text: ListPart,
-    reader: &mut Counted<R>,
-    progress: &mut P,
-) -> Result<KeyList, TextFault>
-    requires block { (0 < block_bytes) × (block_bytes ≤ BLOCK_BYTES) }
-    requires lines { text.lines ≤ BLOCK_BYTES }
-    ensures { (before : List ℕ) → IsReadTo Head before text →
-        AnswersText R.remaining before reader.old reader.new result }
-{
-    let Ok(mut block) = vec![in team.alloc; 0u8; block_bytes] else {
-        return Err(TextFault::Memory);
-    };
-    let Filled { count, failed } = fill_front(reader, &mut block);
-    progress.read(count);
-    if count < block_bytes {
-        return last_block(team, text, &block[..count], failed);
-    }
-    read_blocks(team, text, block, reader, progress)
-}
-
-/// Reads a text of which this block comes next, and the rest of it from the reader, in blocks that
-/// are as long.
+/// Reads a text of which this block comes next, and the rest of it from the reader, block by block.
+/// Each is read into the other one, which is made longer first where it is short for the text.
 fn read_blocks<T: Threads + Sync, R: Read, P: Progress>(
     team: &Team<'_, T>,
+    most: usize,
     begun: ListPart,
-    mut block: Vec<u8>,
+    block: &mut Vec<u8>,
+    next: &mut Vec<u8>,
     reader: &mut Counted<R>,
     progress: &mut P,
 ) -> Result<KeyList, TextFault>
-    requires some { 0 < length block.items }
-    requires few { length block.items ≤ BLOCK_BYTES }
+    requires most { (0 < most) × (most ≤ BLOCK_BYTES) }
+    requires some { 0 < length block.old.items }
+    requires few { (length block.old.items ≤ BLOCK_BYTES) × (length next.old.items ≤ BLOCK_BYTES) }
     requires lines { begun.lines ≤ BLOCK_BYTES }
-    ensures { (before : List ℕ) → IsReadTo Head before begun →
-        AnswersText R.remaining (before ++ block.items) reader.old reader.new result }
+    ensures read { (before : List ℕ) → IsReadTo Head before begun →
+        AnswersText R.remaining (before ++ block.old.items) reader.old reader.new result }
+    ensures few { (length block.new.items ≤ BLOCK_BYTES) × (length next.new.items ≤ BLOCK_BYTES) }
 {
-    let Ok(mut next) = vec![in team.alloc; 0u8; block.len()] else {
-        return Err(TextFault::Memory);
-    };
     let mut text = begun;
     let mut passed = 0u64;
     while passed < MAX_BYTES {
-        let (part, Filled { count, failed }) = read_ahead(
-            team,
-            text.so_far(),
-            &block,
-            reader,
-            &mut next,
-        );
+        let Ok(()) = lengthen(team.alloc, next, behind(block.len(), most)) else {
+            return Err(TextFault::Memory);
+        };
+        let (part, Filled { count, failed }) = read_ahead(team, text.so_far(), block, reader, next);
         progress.read(count);
         let Ok(part) = part else {
             return Err(TextFault::Memory);
@@ -124,7 +107,7 @@ fn read_blocks<T: Threads + Sync, R: Read, P: Progress>(
             return last_block(team, text, &next[..count], failed);
         }
         passed += next.len() as u64;
-        mem::swap(&mut block, &mut next);
+        mem::swap(block, next);
     }
     Err(TextFault::TooLong)
 }

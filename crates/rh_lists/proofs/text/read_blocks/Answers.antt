@@ -8,8 +8,8 @@ use Rattle.rh_lists.specs.Parts.{IsPartOf, IsReadTo, end_of_part}
 use Rattle.rh_lists.proofs.Texts.{block_refused, going_on, last_read, last_tested, long_taken, not_failed, taken_on}
 use Rattle.rh_lists.proofs.text.read_blocks.Goals as goal
 
-pub returns-in_err-text : goal.returns-in_err-text
-returns-in_err-text g c = λ before read.
+pub returns-in_err-text-clause-read : goal.returns-in_err-text-clause-read
+returns-in_err-text-clause-read g c = λ before read.
     let p = err_from_is_err_and c.from_residual.result c.from_residual.ensures.1 in
     let text = c.loop-passed.text in
     let block = c.loop-passed.block.items in
@@ -23,8 +23,8 @@ returns-in_err-text g c = λ before read.
       long = search rules;
     })
 
-pub returns-then-count-len : goal.returns-then-count-len
-returns-then-count-len g c = λ before read.
+pub returns-then-count-len-clause-read : goal.returns-then-count-len-clause-read
+returns-then-count-len-clause-read g c = λ before read.
     let mid = g.R.Read.remaining (inner_of c.loop-passed.reader) in
     let now = g.R.Read.remaining (inner_of c.read_ahead-part.new.reader) in
     let text = c.loop-passed.text in
@@ -34,9 +34,9 @@ returns-then-count-len g c = λ before read.
     let next = c.read_ahead-part.new.next in
     let second = IfOk-at_ok (IsPartOf c.so_far.result c.deref.result.now) c.in-Ok-part.is c.read_ahead-part.ensures.part in
     let here : IsReadTo (end_of_part text) block part = subst (λ s. IsReadTo s block part) c.so_far.ensures (subst (λ l. IsReadTo c.so_far.result l part) c.deref.ensures.value second.read) in
-    let len : length next ≡ c.loop-passed.next.len = search rules in
+    let len : length next ≡ c.lengthen.new.block.len = search rules in
     let short : filled.count < length next = search rules in
-    let same : c.deref-then-count-len.result.now ≡ next = c.deref-then-count-len.ensures.value ∙ take_at next (drop (length next) c.loop-passed.next.items) c.loop-passed.next.len len in
+    let same : c.deref-then-count-len.result.now ≡ next = c.deref-then-count-len.ensures.value ∙ take_at next (drop (length next) c.lengthen.new.block.items) c.lengthen.new.block.len len in
     let last = take filled.count c.deref-then-count-len.result.now in
     let comes : Consumes mid now last = subst (λ l. Consumes mid now (take filled.count l)) (sym same) c.read_ahead-part.ensures.filled.bytes in
     let going = c.loop-passed.invariant.going before read in
@@ -59,26 +59,19 @@ loop-passed-preserved g c =
     let next = c.read_ahead-part.new.next in
     let read = IfOk-at_ok (IsPartOf c.so_far.result c.deref.result.now) c.in-Ok-part.is c.read_ahead-part.ensures.part in
     let here : IsReadTo (end_of_part text) block part = subst (λ s. IsReadTo s block part) c.so_far.ensures (subst (λ l. IsReadTo c.so_far.result l part) c.deref.ensures.value read.read) in
-    let len : length next ≡ c.loop-passed.next.len = search rules in
+    let len : length next ≡ c.lengthen.new.block.len = search rules in
     let size : c.len-in-loop-passed-2.result ≡ length next = search rules in
     let full : length next ≤ filled.count = search rules in
     let all : take filled.count next ≡ next = take_all filled.count next full in
-    let as_long : length next ≡ length c.args.block.items = search rules in
-    let same : c.swap.new.x.items ≡ next = ap (λ v. v.items) c.swap.ensures.x_after ∙ with_items_is c.loop-passed.next next len in
+    let long : length next ≡ length c.lengthen.new.block.items = search rules in
+    let same : c.swap.new.x.items ≡ next = ap (λ v. v.items) c.swap.ensures.x_after ∙ with_items_is c.lengthen.new.block next len in
     let comes : Consumes mid now c.swap.new.x.items = subst (Consumes mid now) (all ∙ sym same) c.read_ahead-part.ensures.filled.bytes in
     record {
       going = λ before begun. going_on _ _ mid now block c.swap.new.x.items text c.in_ok-text.text (c.loop-passed.invariant.going before begun) comes (λ b r. c.in_ok-text.ensures.read b block r here);
-      lines = omega (arith, c.in_ok-text.ensures.lines, c.loop-passed.invariant.lines, read.lines, ap length c.deref.ensures.value, c.loop-passed.invariant.size, size, as_long);
-      size = ap length same ∙ as_long;
-      room = ap (λ v. length v.items) c.swap.ensures.y_after ∙ c.loop-passed.invariant.size;
+      lines = omega (arith, c.in_ok-text.ensures.lines, c.loop-passed.invariant.lines, read.lines, ap length c.deref.ensures.value, ap length same, size);
+      some = omega (arith, ap length same, long, c.in-Ok.ensures.long, c.behind.ensures.some);
+      size = omega (arith, ap length same, long, c.in-Ok.ensures.long, c.behind.ensures.few, c.requires.most.1, c.loop-passed.invariant.room);
+      room = omega (arith, ap (λ v. length v.items) c.swap.ensures.y_after, c.loop-passed.invariant.size);
       taken = taken_on _ mid now _ c.swap.new.x.items c.loop-passed.invariant.taken comes _ (ap length same ∙ sym size);
       fine = c.read_ahead-part.ensures.filled.fine (not_failed filled.failed filled.count (length next) c.read_ahead-part.ensures.filled.early full) ∙ c.loop-passed.invariant.fine;
     }
-
-pub returns : goal.returns
-returns g c = λ before read. record {
-  known = search rules;
-  tested = search rules;
-  counts = search rules;
-  long = λ is. long_taken _ _ _ MAX_BYTES c.loop-passed.invariant.taken (omega arith);
-}

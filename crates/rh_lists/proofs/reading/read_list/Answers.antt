@@ -8,7 +8,7 @@ use Rattle.rh_lists.proofs.Told.{file_fails, file_ok, long_fails, long_ok, magic
 use Rattle.rh_key_files.proofs.LongFile.{header_begins}
 use Rattle.rh_key_files.proofs.Tested.{good_behind}
 use Rattle.rh_lists.proofs.Texts.{first_tested}
-use Rattle.rh_lists.proofs.reading.read_list_in_blocks.Goals as goal
+use Rattle.rh_lists.proofs.reading.read_list.Goals as goal
 
 pub returns-then-failed : goal.returns-then-failed
 returns-then-failed g c =
