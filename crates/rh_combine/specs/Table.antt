@@ -1,5 +1,5 @@
 -- The tables that lists are met by: their room, and their size.
-use Rattle.std.specs.Prelude.{ℕ, ◌≡◌, ◌+◌, ◌^◌, ◌<◌, ◌≤◌, List, length, min}
+use Rattle.std.specs.Prelude.{ℕ, ◌≡◌, ◌+◌, ◌*◌, ◌^◌, ◌<◌, ◌≤◌, List, length, min}
 use Rattle.std.specs.FinSet as set
 use Rattle.rh_grow.specs.Growth.{IsCapacity}
 use Rattle.rh_layout.specs.Layout.{Keys}
@@ -16,11 +16,11 @@ HasRoom bits S keys = set.len (with_list Union S keys) + 1 < 2 ^ bits
 abbrev pub HasAtMost : (most : ℕ) → Keys → List ℕ → Type 0
 HasAtMost most S keys = set.len (with_list Union S keys) ≤ most
 
--- for how many numbers the table of the first list is made, which has so many: of all lists, where the others add to it
+-- for how many numbers the table of the first list is made, which has so many: for twice as many, or for all where other lists add to it
 abbrev pub first_count : How → (most many : ℕ) → ℕ
-first_count Intersect most many = min most many
+first_count Intersect most many = min most (2 * many)
 first_count Union most many = most
-first_count Subtract most many = min most many
+first_count Subtract most many = min most (2 * many)
 first_count Xor most many = most
 
 -- where the other lists add to it, a table of this size takes so many numbers

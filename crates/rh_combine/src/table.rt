@@ -100,14 +100,16 @@ fn flip_all(alloc: Global, most: usize, set: &mut SeqSet, keys: &[u64]) -> Resul
     Ok(())
 }
 
-/// For how many keys the table of the first list is made, which has so many, repeats counted.
+/// For how many keys the table of the first list is made, which has so many, repeats counted. Where
+/// no other list adds to it these are twice as many: so a key that it does not have is soon missed.
 fn count_at_first(how: How, most: usize, many: usize) -> usize
     ensures { result ≡ first_count how most many }
 {
+    let twice = many.saturating_mul(2);
     match how {
-        How::Intersect => most.min(many),
+        How::Intersect => most.min(twice),
         How::Union => most,
-        How::Subtract => most.min(many),
+        How::Subtract => most.min(twice),
         How::Xor => most,
     }
 }

@@ -8,6 +8,7 @@ use rh_forks::{Team, Workers};
 use rh_key_files::KeyFault;
 use rh_lists::*;
 use rh_numbers::TextFault;
+use rh_pieces::KeyList;
 use std::alloc::Global;
 use std::test::*;
 use std::thread::Threads;
@@ -153,6 +154,13 @@ fn a_text_has_more_than_a_million_keys(rt: HostRuntime) -> Result<(), Fail> {
     };
     let mut blocks = Blocks::up_to(rt.alloc(), 100_000);
     let list = read_list(&team, &mut blocks, &mut reader, &mut told)?;
+    assert_eq!(rt; counted(&list), (1_000_001, 9));
+    assert_eq!(rt; told.bytes, 2_000_001);
+    Ok(())
+}
+
+// How many keys the list has, and the last of them.
+fn counted(list: &KeyList) -> (usize, u64) {
     let (mut count, mut last) = (0usize, 0);
     for piece in list.pieces() {
         for key in piece {
@@ -160,9 +168,26 @@ fn a_text_has_more_than_a_million_keys(rt: HostRuntime) -> Result<(), Fail> {
             last = *key;
         }
     }
-    assert_eq!(rt; count, 1_000_001);
-    assert_eq!(rt; last, 9);
-    assert_eq!(rt; told.bytes, 2_000_001);
+    (count, last)
+}
+
+// What a long text leaves in the blocks is no part of the short one behind it.
+#[test]
+fn lists_are_read_into_the_same_blocks(rt: HostRuntime) -> Result<(), Fail> {
+    for workers in 1..3usize {
+        let team = Team {
+            rt: &rt,
+            alloc: rt.alloc(),
+            workers: Workers { count: workers },
+        };
+        let mut blocks = Blocks::new(rt.alloc());
+        for many in [3usize, 40_000, 100_000, 5, 700_000, 0, 40_000] {
+            let text = sevens(rt.alloc(), many, b"9")?;
+            let mut reader = Counted::new(text.as_slice());
+            let list = read_list(&team, &mut blocks, &mut reader, &mut Nobody)?;
+            assert_eq!(rt; counted(&list), (many.wrapping_add(1), 9));
+        }
+    }
     Ok(())
 }
 

@@ -1,7 +1,7 @@
 //! The blocks that texts are read into.
 
-ghost use Rattle.std.specs.Prelude.{◌≡◌, ◌≤◌, ◌<◌, OnOk, length, max};
-ghost use Rattle.rh_lists.specs.declared.limits.TheConstants.{BLOCK_BYTES};
+ghost use Rattle.std.specs.Prelude.{◌≡◌, ◌≤◌, ◌<◌, ◌*◌, OnOk, length, max, min};
+ghost use Rattle.rh_lists.specs.declared.limits.TheConstants.{BLOCK_BYTES, TIMES_LONGER};
 
 use crate::limits::{BLOCK_BYTES, FIRST_BYTES, TIMES_LONGER};
 use std::alloc::{AllocError, Global};
@@ -23,7 +23,8 @@ pub struct Blocks {
 }
 
 impl Blocks {
-    ghost use Rattle.std.specs.Prelude.{◌≡◌, ◌≤◌, ◌<◌, OnOk, length};
+    ghost use Rattle.std.specs.Prelude.{◌≡◌, ◌≤◌, ◌<◌, OnOk, length, max, min};
+    ghost use Rattle.rh_lists.specs.declared.limits.TheConstants.{FIRST_BYTES};
 
     /// No block yet. Each will have `BLOCK_BYTES` at the most.
     pub fn new(alloc: Global) -> Blocks {
@@ -44,6 +45,9 @@ impl Blocks {
     /// Sees that there is a first block: the longer of both, and no shorter than that of a short
     /// text.
     pub(crate) fn begin(&mut self, alloc: Global) -> Result<(), AllocError>
+        ensures size { OnOk result (length self.new.block.items
+            ≡ max (max (length self.old.block.items) (length self.old.next.items))
+            (min FIRST_BYTES self.old.most)) }
         ensures some { OnOk result (0 < length self.new.block.items) }
     {
         if self.block.len() < self.next.len() {
@@ -56,6 +60,7 @@ impl Blocks {
 /// How long the block behind one of so many bytes is at the least.
 pub(crate) fn behind(bytes: usize, most: usize) -> usize
     requires { (0 < bytes) × (0 < most) }
+    ensures size { result ≡ min (bytes * TIMES_LONGER) most }
     ensures some { 0 < result }
     ensures few { result ≤ most }
 {
