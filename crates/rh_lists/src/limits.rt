@@ -1,10 +1,10 @@
 //! How a text is cut.
 
-/// A text is read in blocks of so many bytes. Two of them are held.
+/// A text is read in blocks of so many bytes at the most. Two of them are held.
 pub const BLOCK_BYTES: usize = 1 << 24;
 
-/// But the first one has so many.
+/// The first one has so many, where no text before it was longer.
 pub const FIRST_BYTES: usize = 1 << 16;
 
-/// And the next ones are so many times longer than those before them.
+/// The one behind another is so many times longer.
 pub const TIMES_LONGER: usize = 16;

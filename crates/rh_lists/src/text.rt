@@ -33,9 +33,8 @@ pub(crate) fn read_short_text(alloc: Global, bytes: &[u8]) -> Result<KeyList, Te
     text.end_text(alloc)
 }
 
-/// Reads the rest of a text that begins so. As long as the blocks are small the first one is, and
-/// one worker reads what is no more than that, so that a short text takes little memory and no
-/// thread.
+/// Reads the rest of a text that begins so. Less than `FIRST_BYTES` is read by one worker, so that a
+/// short text takes no thread; and where no text was longer, it takes no longer block.
 pub(crate) fn read_text<T: Threads + Sync, R: Read, P: Progress>(
     team: &Team<'_, T>,
     blocks: &mut Blocks,
@@ -73,7 +72,8 @@ pub(crate) fn read_text<T: Threads + Sync, R: Read, P: Progress>(
 }
 
 /// Reads a text of which this block comes next, and the rest of it from the reader, block by block.
-/// Each is read into the other one, which is made longer first where it is short for the text.
+/// The two blocks take turns, and the one that is filled next is made longer first where it is
+/// shorter than `behind` says.
 fn read_blocks<T: Threads + Sync, R: Read, P: Progress>(
     team: &Team<'_, T>,
     most: usize,
