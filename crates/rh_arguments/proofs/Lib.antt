@@ -6,9 +6,13 @@
 -- RowLemmas: which arguments have a row where clap takes the words: those with a default, and those that have to be given.
 -- ValueLemmas: what clap took for an argument whose action is `Set`: a text that its parser accepts, read as the parser says.
 -- ReadLemmas: what the getters of clap's matches read.
+-- FlagLemmas: a text that is compared with a word.
+-- FoundLemmas: what clap found for a number or a text is what a line needs.
 
 pub mod BuilderLemmas
 pub mod CommandLemmas
+mod FlagLemmas
+pub mod FoundLemmas
 pub mod HelpLemmas
 pub mod ReadLemmas
 pub mod RowLemmas

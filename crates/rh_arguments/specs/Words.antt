@@ -1,5 +1,5 @@
 -- What a command line says of a program, of its words, and of what is found in them.
-use Rattle.std.specs.Prelude.{◌≡◌, ◌≤◌, ℕ, true, List, [], false, unwrap_or, Option, Some, None, is_some, map, option_map, string_bytes, String}
+use Rattle.std.specs.Prelude.{◌≡◌, ◌≤◌, ℕ, true, List, [], ◌∷◌, false, unwrap_or, Option, Some, None, is_some, map, option_map, string_bytes, String, codes}
 use Rattle.std.specs.Global.{Global}
 use Rattle.std.specs.Str.Parse.{digits_value, without_leading_plus}
 use Rattle.clap.specs.Values.{IsUnsignedIn}
@@ -7,6 +7,7 @@ use Rattle.clap.specs.Walk.{Row, Rule, Text, all_of, first_of, one_of, rule_of}
 use Rattle.clap.specs.Simple.{App, new_app, new_rule, on_top}
 use Rattle.clap.specs.declared.builder.arg.Arg.{Arg}
 use Rattle.clap.specs.declared.builder.action.ArgAction.TheVariants.{Set}
+use Rattle.clap.specs.declared.builder.value_parser.ValueParser.TheVariants.{Unsigned}
 
 -- a program before its commands: it has a version, and a command has to be named
 abbrev pub program_app : Text → App
@@ -15,6 +16,16 @@ program_app name = on_top (λ s. record s { has_version = true; subcommand_requi
 -- an argument that has to be given, such as a path; any text is taken
 abbrev pub path_rule : Text → Rule
 path_rule id = record (new_rule id) { action = Some Set; value_names = 1; required = true }
+
+-- `--id N`: a number up to `most`, and 0 where it is left out
+abbrev pub number_rule : (id : Text) (most : ℕ) → Rule
+number_rule id most = record (new_rule id) {
+  long = Some id;
+  action = Some Set;
+  value_names = 1;
+  defaults = codes "0" ∷ [];
+  parser = Some (Unsigned 0 most);
+}
 
 -- the argument of this rule; no command below its own knows it
 pub record IsArg (rule : Rule) (arg : Arg) : Type 0 where

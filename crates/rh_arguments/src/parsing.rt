@@ -7,19 +7,22 @@ ghost use Rattle.clap.specs.Words.{AddsSubcommand, app_of, fault_of, found_of, i
 ghost use Rattle.clap.specs.Words.{rows_of};
 ghost use Rattle.clap.specs.Words.{subcommand_of, subcommand_rows_of};
 ghost use Rattle.rh_arguments.specs.Faults.{IsOneOf};
-ghost use Rattle.rh_arguments.specs.Words.{IsArg, IsTextFor, GivesAll, GivesNumber, HasNumber, HasText, path_rule, program_app};
-ghost use Rattle.rh_arguments.specs.Words.{texts_of};
+ghost use Rattle.rh_arguments.specs.Words.{IsArg, IsTextFor, GivesAll, GivesNumber, HasNumber, HasText};
+ghost use Rattle.rh_arguments.specs.Words.{number_rule, path_rule, program_app, texts_of};
 
 use crate::fault::LineFault;
+use clap::builder::ValueParser;
 use clap::{Arg, ArgAction, ArgMatches, Command};
 use std::alloc::{AllocError, Global};
 
 const VERSION: &str = "0.1.0";
 
-/// The program of this name, which needs a command, with the texts of its `--help`.
+/// The program of this name, which needs a command, with the texts of its `--help`. Usage lines
+/// show the name by which it was called.
 pub fn program_command<'a>(
     alloc: Global,
     name: &'a str,
+    called: &str,
     about: &'a str,
     long_about: &'a str,
     statuses: &'a str,
@@ -29,7 +32,7 @@ pub fn program_command<'a>(
     describe(alloc, name, about, long_about, statuses)
         .version(VERSION)
         .subcommand_required(true)
-        .bin_name(name)
+        .bin_name(called)
 }
 
 /// A command of this name that takes nothing yet, with the texts that `-h` and `--help` print of
@@ -124,5 +127,18 @@ pub fn text_arg<'a>(alloc: Global, id: &'a str, name: &'a str, help: &'a str) ->
         .value_name(name)
         .required(true)
         .action(ArgAction::Set)
+        .help(help)
+}
+
+/// An argument `--id N`: a number from 0 to `most`, and 0 where it is left out.
+pub fn number_arg<'a>(alloc: Global, id: &'a str, most: usize, help: &'a str) -> Arg<'a>
+    ensures { IsArg (number_rule id.now most) result }
+{
+    Arg::new(alloc, id)
+        .long(id)
+        .value_name("N")
+        .action(ArgAction::Set)
+        .value_parser(ValueParser::unsigned(0, most as u64))
+        .default_value("0")
         .help(help)
 }

@@ -1,5 +1,5 @@
 use rh_arguments::LineFault;
-use rh_key_commands::line::{Line, line};
+use rh_key_commands::{Combination, Line, line, meant};
 use std::alloc::Global;
 use std::test::Fail;
 
@@ -20,176 +20,68 @@ fn is_mistake(alloc: Global, words: &[&str]) -> Result<bool, Fail> {
     }
 }
 
-// Whether words that are `pack` or `list` ask for a listing, and whether for one of a snapshot.
-fn listing_of(alloc: Global, words: &[&str]) -> Result<Option<(bool, bool)>, Fail> {
-    Ok(match line_of(alloc, words)? {
-        Ok(line) => match line {
-            Line::Pack { .. } => Some((false, false)),
-            Line::List { snapshot, .. } => Some((true, snapshot)),
-            Line::Combine { .. } | Line::Check { .. } | Line::Split { .. } => None,
-        },
-        Err(_fault) => None,
-    })
+// The line, of words that are a command.
+fn asked_of(alloc: Global, words: &[&str]) -> Result<Line, Fail> {
+    match line_of(alloc, words)? {
+        Ok(line) => Ok(line),
+        Err(_fault) => Err("refused".into()),
+    }
 }
 
-// The files that are named, of words that are `check`, `list`, `pack` or `split`.
-fn files_of(alloc: Global, words: &[&str]) -> Result<Option<Vec<String>>, Fail> {
-    Ok(match line_of(alloc, words)? {
-        Ok(line) => match line {
-            Line::Check { files, skip: _skip } => Some(files),
-            Line::List {
-                files,
-                snapshot: _snapshot,
-            } => Some(files),
-            Line::Pack { files, skip: _skip } => Some(files),
-            Line::Split {
-                files,
-                name: _name,
-                ..
-            } => Some(files),
-            Line::Combine { files: _files, .. } => None,
-        },
-        Err(_fault) => None,
-    })
-}
-
-// The number of parts, the flags `--key-file` and `--plan` and the name, of words that are `split`.
-fn split_of(alloc: Global, words: &[&str]) -> Result<Option<(usize, bool, bool, String)>, Fail> {
-    Ok(match line_of(alloc, words)? {
-        Ok(line) => match line {
-            Line::Split {
-                parts,
-                key_file,
-                plan,
-                name,
-                skip: _skip,
-                files: _files,
-            } => Some((parts, key_file, plan, name)),
-            Line::Combine { files: _files, .. } => None,
-            Line::Check { files: _files, .. } => None,
-            Line::Pack { files: _files, .. } => None,
-            Line::List { files: _files, .. } => None,
-        },
-        Err(_fault) => None,
-    })
-}
-
-// How many lines are passed by, of words that read texts.
-fn skip_of(alloc: Global, words: &[&str]) -> Result<Option<usize>, Fail> {
-    Ok(match line_of(alloc, words)? {
-        Ok(line) => match line {
-            Line::Combine { skip, .. }
-            | Line::Check { skip, .. }
-            | Line::Pack { skip, .. }
-            | Line::Split { skip, .. } => Some(skip),
-            Line::List { .. } => None,
-        },
-        Err(_fault) => None,
-    })
+fn word_of(combination: Combination) -> &'static str {
+    match combination {
+        Combination::Intersect => "intersect",
+        Combination::Union => "union",
+        Combination::Subtract => "subtract",
+        Combination::Xor => "xor",
+    }
 }
 
 const SKIPS: &[(&[&str], usize)] = &[
     (&["union", "a"], 0),
     (&["union", "--skip", "1", "a"], 1),
     (&["xor", "a", "b", "--skip=1000000000"], 1_000_000_000),
-    (&["check", "--skip", "2"], 2),
-    (&["check", "a"], 0),
-    (&["pack", "--skip", "3", "a"], 3),
-    (&["pack"], 0),
-    (&["split", "a", "--skip", "4"], 4),
-    (&["split", "a", "b"], 0),
 ];
 
 #[test]
 fn lines_are_passed_by(rt: HostRuntime) -> Result<(), Fail> {
     for &(words, skip) in SKIPS {
-        assert_eq!(rt; skip_of(rt.alloc(), words)?, Some(skip), "{words:?}");
+        assert_eq!(rt; asked_of(rt.alloc(), words)?.skip, skip, "{words:?}");
     }
     Ok(())
 }
 
-const LISTINGS: &[(&[&str], (bool, bool))] = &[
-    (&["pack"], (false, false)),
-    (&["list"], (true, false)),
-    (&["list", "--snapshot"], (true, true)),
-    (&["list", "a"], (true, false)),
-    (&["list", "a", "--snapshot", "b"], (true, true)),
+type Flags = (usize, bool, bool);
+
+const COMBINATIONS: &[(&[&str], Flags, &[&str])] = &[
+    (&["intersect", "a", "b"], (0, false, false), &["a", "b"]),
+    (
+        &["union", "b", "--count", "-", "b"],
+        (0, true, false),
+        &["b", "-", "b"],
+    ),
+    (
+        &["subtract", "--packed", "--workers", "64", "a", "--", "--b"],
+        (64, false, true),
+        &["a", "--b"],
+    ),
+    (
+        &["xor", "--count", "--packed", "--workers=+2", ""],
+        (2, true, true),
+        &[""],
+    ),
 ];
 
 #[test]
 fn words_are_commands(rt: HostRuntime) -> Result<(), Fail> {
-    for &(words, listing) in LISTINGS {
-        assert_eq!(rt; listing_of(rt.alloc(), words)?, Some(listing), "{words:?}");
-    }
-    Ok(())
-}
-
-const FILES: &[(&[&str], &[&str])] = &[
-    (&["list"], &[]),
-    (&["list", "a.keys"], &["a.keys"]),
-    (&["list", "b", "--snapshot", "a", "b"], &["b", "a", "b"]),
-    (&["list", "--", "--snapshot", ""], &["--snapshot", ""]),
-    (&["check"], &[]),
-    (&["check", "b", "-", "a"], &["b", "-", "a"]),
-    (&["pack"], &[]),
-    (&["pack", "ids.txt"], &["ids.txt"]),
-    (&["pack", "-"], &["-"]),
-    (&["split", "spring"], &[]),
-    (
-        &["split", "--parts", "2", "spring", "ids.txt"],
-        &["ids.txt"],
-    ),
-    (&["split", "spring", "-", "--plan"], &["-"]),
-];
-
-#[test]
-fn files_are_given_in_their_order(rt: HostRuntime) -> Result<(), Fail> {
-    for &(words, expected) in FILES {
-        let Some(files) = files_of(rt.alloc(), words)? else {
-            return Err("refused".into());
-        };
-        assert_eq!(rt; files.len(), expected.len(), "{words:?}");
-        for (file, name) in files.iter().zip(expected) {
+    for &(words, flags, files) in COMBINATIONS {
+        let line = asked_of(rt.alloc(), words)?;
+        assert_eq!(rt; word_of(line.combination), words[0], "{words:?}");
+        assert_eq!(rt; (line.workers, line.count, line.packed), flags, "{words:?}");
+        assert_eq!(rt; line.files.len(), files.len(), "{words:?}");
+        for (file, name) in line.files.iter().zip(files) {
             assert_eq!(rt; file.as_str(), *name, "{words:?}");
         }
-    }
-    Ok(())
-}
-
-type Split = (usize, bool, bool, &'static str);
-
-const SPLITS: &[(&[&str], Split)] = &[
-    (
-        &["split", "--parts", "2", "spring"],
-        (2, false, false, "spring"),
-    ),
-    (&["split", "--parts=1000", "a"], (1000, false, false, "a")),
-    (&["split", "a", "--parts", "+64"], (64, false, false, "a")),
-    (
-        &["split", "--key-file", "--parts", "3", "a"],
-        (3, true, false, "a"),
-    ),
-    (
-        &["split", "--plan", "--parts", "3", "a"],
-        (3, false, true, "a"),
-    ),
-    (
-        &["split", "--plan", "--key-file", "--parts", "3", "--", "--a"],
-        (3, true, true, "--a"),
-    ),
-    (&["split", "--parts", "2", ""], (2, false, false, "")),
-    (&["split", "a"], (0, false, false, "a")),
-    (&["split", "--plan", "a"], (0, false, true, "a")),
-    (&["split", "--parts", "1", "a"], (1, false, false, "a")),
-];
-
-#[test]
-fn words_are_splits(rt: HostRuntime) -> Result<(), Fail> {
-    for &(words, split) in SPLITS {
-        let Some((parts, key_file, plan, name)) = split_of(rt.alloc(), words)? else {
-            return Err("refused".into());
-        };
-        assert_eq!(rt; (parts, key_file, plan, name.as_str()), split, "{words:?}");
     }
     Ok(())
 }
@@ -197,25 +89,14 @@ fn words_are_splits(rt: HostRuntime) -> Result<(), Fail> {
 const MISTAKES: &[&[&str]] = &[
     &[],
     &["unpack"],
-    &["pack", "a", "b"],
-    &["pack", "--snapshot"],
-    &["check", "--count", "a"],
-    &["check", "--skip", "1000000001", "a"],
+    &["pack"],
+    &["union"],
     &["union", "--skip", "-1", "a"],
-    &["list", "--skip", "1", "a"],
-    &["list", "--keys"],
-    &["list", "--snapshot=true"],
-    &["list", "--snapshot", "--snapshot"],
-    &["--snapshot"],
-    &["--snapshot", "list"],
-    &["split"],
-    &["split", "--parts", "2"],
-    &["split", "--parts", "-1", "a"],
-    &["split", "--parts", "1001", "a"],
-    &["split", "--parts", "two", "a"],
-    &["split", "--parts", "2", "a", "b", "c"],
-    &["split", "--parts", "2", "--parts", "3", "a"],
-    &["split", "--parts", "2", "--snapshot", "a"],
+    &["union", "--skip", "1000000001", "a"],
+    &["union", "--workers", "65", "a"],
+    &["union", "--count", "--count", "a"],
+    &["--count"],
+    &["--count", "union", "a"],
 ];
 
 #[test]
@@ -229,14 +110,8 @@ fn other_words_are_refused(rt: HostRuntime) -> Result<(), Fail> {
 const HELP: &[&[&str]] = &[
     &["--help"],
     &["-h"],
-    &["help", "pack"],
-    &["pack", "--help"],
-    &["check", "--help"],
-    &["help", "list"],
-    &["list", "-h"],
-    &["list", "--snapshot", "--help"],
-    &["help", "split"],
-    &["split", "--help"],
+    &["help", "union"],
+    &["xor", "--help"],
     &["--version"],
 ];
 
@@ -244,6 +119,26 @@ const HELP: &[&[&str]] = &[
 fn help_and_version_are_no_mistake(rt: HostRuntime) -> Result<(), Fail> {
     for &words in HELP {
         assert!(rt; !is_mistake(rt.alloc(), words)?, "{words:?}");
+    }
+    Ok(())
+}
+
+const MEANT: &[(&str, Option<&str>)] = &[
+    ("merge", Some("union")),
+    ("both", Some("intersect")),
+    ("verify", Some("check")),
+    ("unpack", Some("list")),
+    ("union", None),
+    ("check", None),
+    ("pack", None),
+    ("list", None),
+    ("split", None),
+];
+
+#[test]
+fn words_of_other_tools_are_told(rt: HostRuntime) -> Result<(), Fail> {
+    for &(word, name) in MEANT {
+        assert_eq!(rt; meant(word), name, "{word}");
     }
     Ok(())
 }

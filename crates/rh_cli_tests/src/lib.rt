@@ -7,6 +7,10 @@
 #[cfg(test)]
 mod keys_line;
 #[cfg(test)]
+mod names;
+#[cfg(test)]
+mod pack_line;
+#[cfg(test)]
 mod plays_line;
 #[cfg(test)]
 mod set_line;

@@ -1,6 +1,6 @@
 use clap::Error;
 use rh_arguments::LineFault;
-use rh_play_commands::{Line, line, name_called};
+use rh_play_commands::{Line, line};
 use std::alloc::Global;
 use std::test::Fail;
 
@@ -149,26 +149,6 @@ fn help_and_version_are_no_mistake(rt: HostRuntime) -> Result<(), Fail> {
     for &words in HELP {
         let error = told_of(rt.alloc(), words)?.ok_or("not answered")?;
         assert!(rt; !error.use_stderr(), "{words:?}");
-    }
-    Ok(())
-}
-
-const NAMES: &[(&[&str], &str)] = &[
-    (&["rhset", "play", "f"], "rhset"),
-    (&["/usr/local/bin/rhplay"], "rhplay"),
-    (&["./a b"], "a b"),
-    (&["", "rhset"], "rhplay"),
-    (&[], "rhplay"),
-];
-
-#[test]
-fn the_name_is_the_end_of_the_first_word(rt: HostRuntime) -> Result<(), Fail> {
-    for &(words, name) in NAMES {
-        let mut all = Vec::new(rt.alloc());
-        for word in words {
-            all.push(String::from_str(rt.alloc(), word)?)?;
-        }
-        assert_eq!(rt; name_called(&all), name, "{words:?}");
     }
     Ok(())
 }

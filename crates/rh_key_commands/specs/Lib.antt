@@ -1,4 +1,1 @@
-pub mod Flags
-pub mod Skip
-pub mod Lists
 pub mod Line

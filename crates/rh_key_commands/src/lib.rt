@@ -4,15 +4,20 @@
 //!
 //! Proved:
 //!
-//! - `line::line`: the command is the one that the words name, by the rules of `clap`, with what
-//!   they give. It is refused exactly by the kinds of fault that those rules give. A flag is given
-//!   exactly where the text that `clap` found for it is `true`.
-//! - `fixed_numbers`: at most 1,000 parts and 64 workers are taken, and a billion lines are passed
-//!   by.
+//! - `line`: the command is the one that the words name, by the rules of `clap`, with what they
+//!   give. It is refused exactly by the kinds of fault that those rules give.
+//! - `fixed_numbers`: at most 64 workers are taken.
 #![tactic(auto)]
 
+mod asked;
+mod elsewhere;
+mod help;
 mod laws;
 mod limits;
-pub mod line;
+mod parse;
 
+pub use asked::{Combination, Line};
+pub use elsewhere::meant;
 pub use laws::fixed_numbers;
+pub use limits::MAX_WORKERS;
+pub use parse::line;

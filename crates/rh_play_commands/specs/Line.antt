@@ -7,7 +7,7 @@ use Rattle.clap.specs.declared.builder.value_parser.ValueParser.TheVariants.{Uns
 use Rattle.rh_play_commands.specs.declared.asked.Line.{Line}
 use Rattle.rh_play_commands.specs.declared.asked.Line.TheVariants.{Play, Trace, Draw}
 use Rattle.rh_play_commands.specs.declared.limits.TheConstants.{MAX_DRAWN, MAX_FROM}
-use Rattle.rh_arguments.specs.Words.{IsTextFor, GivesNumber, HasNumber, HasText, path_rule, program_app}
+use Rattle.rh_arguments.specs.Words.{IsTextFor, GivesNumber, HasNumber, HasText, number_rule, path_rule, program_app}
 
 -- ---- the commands
 
@@ -29,19 +29,9 @@ from_rule = record (new_rule (codes "from")) {
   parser = Some (Unsigned 1 MAX_FROM);
 }
 
--- `--steps N`: a number up to MAX_DRAWN, and 0 where it is left out
-abbrev pub steps_rule : Rule
-steps_rule = record (new_rule (codes "steps")) {
-  long = Some (codes "steps");
-  action = Some Set;
-  value_names = 1;
-  defaults = codes "0" ∷ [];
-  parser = Some (Unsigned 0 MAX_DRAWN);
-}
-
 -- the command `draw` takes a file, and which steps are drawn
 abbrev pub draw_app : App
-draw_app = with_rule (with_rule (with_rule (new_app (codes "draw")) from_rule) steps_rule) (path_rule (codes "file"))
+draw_app = with_rule (with_rule (with_rule (new_app (codes "draw")) from_rule) (number_rule (codes "steps") MAX_DRAWN)) (path_rule (codes "file"))
 
 abbrev pub rhplay_app : App
 rhplay_app = with_subcommand (with_subcommand (with_subcommand (program_app (codes "rhplay")) play_app.top) trace_app.top) draw_app.top

@@ -6,8 +6,6 @@
 //!
 //! - `line`: the command is the one that the words name, by the rules of `clap`, with what they
 //!   give. It is refused exactly by the kinds of fault that those rules give.
-//! - `name_called`: the name is the last component of the first word, taken as a path, or `rhplay`
-//!   where it has none.
 //! - `fixed_numbers`: at most 2,000 steps are drawn.
 #![tactic(auto)]
 
@@ -15,10 +13,8 @@ mod asked;
 mod help;
 mod laws;
 mod limits;
-mod name;
 mod parse;
 
 pub use asked::Line;
 pub use laws::fixed_numbers;
-pub use name::{NAME, name_called};
-pub use parse::line;
+pub use parse::{NAME, line};

@@ -6,18 +6,20 @@ ghost use Rattle.clap.specs.Words.{subcommand_of, subcommand_rows_of};
 ghost use Rattle.rh_arguments.specs.Faults.{IsOneOf};
 ghost use Rattle.rh_arguments.specs.Words.{Finds, HasText, IsArg, texts_of};
 ghost use Rattle.rh_play_commands.specs.Line.{Asks, HasDrawArguments, IsCommand, Says, draw_app};
-ghost use Rattle.rh_play_commands.specs.Line.{from_rule, play_app, rhplay_app, steps_rule, trace_app};
+ghost use Rattle.rh_play_commands.specs.Line.{from_rule, play_app, rhplay_app, trace_app};
 
 use crate::asked::Line;
 use crate::help;
 use crate::limits::{MAX_DRAWN, MAX_FROM};
-use crate::name::NAME;
 use clap::{Arg, ArgAction, ArgMatches, Command, value_parser};
 use rh_arguments::LineFault;
 use rh_arguments::parsing::{
-    describe, find_arguments, number, program_command, text, text_arg, with_subcommand,
+    describe, find_arguments, number, number_arg, program_command, text, text_arg, with_subcommand,
 };
 use std::alloc::{AllocError, Global};
+
+/// The program's own name.
+pub const NAME: &str = "rhplay";
 
 /// What `words` ask for, of which the first is the name by which the program was called.
 ///
@@ -76,6 +78,7 @@ fn command<'a>(alloc: Global) -> Result<Command<'a>, AllocError>
     let program = program_command(
         alloc,
         NAME,
+        NAME,
         help::PROGRAM,
         help::PROGRAM_AT_LENGTH,
         help::STATUSES,
@@ -117,7 +120,7 @@ fn draw_command<'a>(alloc: Global) -> Result<Command<'a>, AllocError>
         help::DRAWINGS,
     )
     .arg(from_arg(alloc))?
-    .arg(steps_arg(alloc))?
+    .arg(number_arg(alloc, "steps", MAX_DRAWN, help::STEPS))?
     .arg(text_arg(alloc, "file", "FILE", help::FILE))
 }
 
@@ -131,16 +134,4 @@ fn from_arg<'a>(alloc: Global) -> Arg<'a>
         .value_parser(value_parser!(usize).range(1..=MAX_FROM as i64))
         .default_value("1")
         .help(help::FROM)
-}
-
-fn steps_arg<'a>(alloc: Global) -> Arg<'a>
-    ensures { IsArg steps_rule result }
-{
-    Arg::new(alloc, "steps")
-        .long("steps")
-        .value_name("N")
-        .action(ArgAction::Set)
-        .value_parser(value_parser!(usize).range(0..=MAX_DRAWN as i64))
-        .default_value("0")
-        .help(help::STEPS)
 }

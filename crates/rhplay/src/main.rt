@@ -9,9 +9,9 @@ mod status;
 mod streams;
 
 use note::{note_on_play, note_on_unwritten};
-use rh_arguments::LineFault;
+use rh_arguments::{LineFault, name_called};
 use rh_cli::{FileNote, Outlet, ProgramFault, Status, answer, hold_closed, tell_note, words};
-use rh_play_commands::{Line, NAME, line, name_called};
+use rh_play_commands::{Line, NAME, line};
 use rh_play_run::Telling;
 use status::Fault;
 use std::env::Env;
@@ -35,7 +35,7 @@ fn run(
     words: &[String],
     is_terminal: bool,
 ) -> Status {
-    let name = name_called(words);
+    let name = name_called(words, NAME);
     let mut outlet = Outlet::new(io::writer(rt));
     let mut note = None;
     let outcome = carry_out(rt, &mut outlet, words, &mut note);

@@ -68,6 +68,7 @@ fn command<'a>(alloc: Global) -> Result<Command<'a>, AllocError>
     let program = program_command(
         alloc,
         NAME,
+        NAME,
         help::PROGRAM,
         help::PROGRAM_AT_LENGTH,
         help::STATUSES,

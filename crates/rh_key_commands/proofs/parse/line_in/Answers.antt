@@ -1,0 +1,26 @@
+use Rattle.std.proofs.Common.{◌≡◌, List, Some, option_map, arith}
+use Rattle.clap.specs.Words.{Row, Text}
+use Rattle.rh_key_commands.specs.Line.{IsCommand, name_of}
+use Rattle.rh_key_commands.specs.declared.asked.Combination.{Combination}
+use Rattle.rh_key_commands.specs.declared.asked.Combination.TheVariants.{Intersect, Union, Subtract, Xor}
+use Rattle.rh_arguments.proofs.CommandLemmas.{name_found}
+use Rattle.rh_key_commands.proofs.parse.line_in.Goals as goal
+use Rattle.rh_key_commands.proofs.parse.line_in.Goals.{in_default-via-in-Some+in_default, in_default-via-in_default}
+
+-- the arms above have each command
+pub unreachable-requires : goal.unreachable-requires
+unreachable-requires c =
+    let named : (row : Text × List Row) × (option_map (λ p. p.0.now) c.subcommand.result ≡ Some row.0) × IsCommand row.0 row.1 =
+    name_found IsCommand c.args.matches.now _ c.subcommand.ensures.name c.requires in
+    elim c.in_default.branch [
+      | in_default-via-in-Some+in_default w ↦
+          let unnamed : (how : Combination) → named.0.0 ≡ name_of how → ⊥ =
+          λ how. elim how [
+            | Intersect ↦ λ is. grind (arith, named.1, is, w.in_default.is)
+            | Union ↦ λ is. grind (arith, named.1, is, w.in_default.is)
+            | Subtract ↦ λ is. grind (arith, named.1, is, w.in_default.is)
+            | Xor ↦ λ is. grind (arith, named.1, is, w.in_default.is)
+          ] in
+          absurd (unnamed named.2.0 named.2.1)
+      | in_default-via-in_default w ↦ grind (arith, named.1, w.in_default.is)
+    ]

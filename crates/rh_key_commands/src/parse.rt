@@ -1,0 +1,120 @@
+//! Reading the words of the command line.
+
+ghost use Rattle.std.specs.Prelude.{◌≡◌, [], IfOk, IfErr};
+ghost use Rattle.clap.specs.Words.{app_of, fault_of, found_of, rows_of};
+ghost use Rattle.clap.specs.Words.{subcommand_of, subcommand_rows_of};
+ghost use Rattle.rh_arguments.specs.Faults.{IsOneOf};
+ghost use Rattle.rh_arguments.specs.Words.{Finds, IsArg, texts_of};
+ghost use Rattle.rh_key_commands.specs.Line.{Asks, HasArguments, IsCommand, Says, lists_app};
+ghost use Rattle.rh_key_commands.specs.Line.{lists_rule, name_of, rhkeys_app, unskipped_app};
+
+use crate::asked::{Combination, Line};
+use crate::help::{self, Texts};
+use crate::limits::MAX_WORKERS;
+use clap::{Arg, ArgAction, ArgMatches, Command};
+use rh_arguments::LineFault;
+use rh_arguments::flags::{flag_arg, is_given};
+use rh_arguments::parsing::{
+    describe, find_arguments, number, number_arg, program_command, texts, with_subcommand,
+};
+use rh_arguments::skip::{skip_arg, skip_asked};
+use std::alloc::{AllocError, Global};
+
+const NAME: &str = "rhkeys";
+
+/// What `words` ask for, of which the first is the program's name.
+///
+/// `LineFault::Memory` comes only where a growth was refused.
+pub fn line(alloc: Global, words: &[String]) -> Result<Line, LineFault>
+    ensures asked { IfOk result (λ l. Asks (subcommand_of rhkeys_app (texts_of words.now)) l) }
+    ensures taken { IfOk result (λ l. fault_of rhkeys_app (texts_of words.now) ≡ []) }
+    ensures refused { IfErr result (λ f. IsOneOf (fault_of rhkeys_app (texts_of words.now)) f) }
+{
+    let matches = find_arguments(command(alloc)?, words)?;
+    let line = line_in(alloc, &matches)?;
+    Ok(line)
+}
+
+fn line_in(alloc: Global, matches: &ArgMatches<'_>) -> Result<Line, AllocError>
+    requires { Finds IsCommand (subcommand_rows_of matches.now) }
+    ensures { IfOk result (λ l. Asks (subcommand_rows_of matches.now) l) }
+{
+    match matches.subcommand() {
+        Some(("intersect", given)) => lists_asked(alloc, Combination::Intersect, given),
+        Some(("union", given)) => lists_asked(alloc, Combination::Union, given),
+        Some(("subtract", given)) => lists_asked(alloc, Combination::Subtract, given),
+        Some(("xor", given)) => lists_asked(alloc, Combination::Xor, given),
+        _ => unreachable!(),
+    }
+}
+
+fn lists_asked(
+    alloc: Global,
+    combination: Combination,
+    given: &ArgMatches<'_>,
+) -> Result<Line, AllocError>
+    requires { HasArguments (rows_of (found_of given.now)) }
+    ensures { IfOk result (λ l. Says (name_of combination) (rows_of (found_of given.now)) l) }
+{
+    let workers = number(given, "workers", 0, MAX_WORKERS);
+    let count = is_given(given, "count");
+    let packed = is_given(given, "packed");
+    let skip = skip_asked(given);
+    let files = texts(alloc, given, "file")?;
+    Ok(Line {
+        combination,
+        workers,
+        count,
+        packed,
+        skip,
+        files,
+    })
+}
+
+fn command<'a>(alloc: Global) -> Result<Command<'a>, AllocError>
+    ensures { IfOk result (λ c. app_of c ≡ rhkeys_app) }
+{
+    let program = program_command(
+        alloc,
+        NAME,
+        NAME,
+        help::PROGRAM,
+        help::PROGRAM_AT_LENGTH,
+        help::STATUSES,
+    );
+    let intersect = lists_command(alloc, "intersect", &help::INTERSECT);
+    let union = lists_command(alloc, "union", &help::UNION);
+    let subtract = lists_command(alloc, "subtract", &help::SUBTRACT);
+    let xor = lists_command(alloc, "xor", &help::XOR);
+    let with_intersect = with_subcommand(program, intersect);
+    let with_union = with_subcommand(with_intersect, union);
+    let with_subtract = with_subcommand(with_union, subtract);
+    with_subcommand(with_subtract, xor)
+}
+
+fn lists_command<'a>(alloc: Global, name: &'a str, texts: &Texts) -> Result<Command<'a>, AllocError>
+    ensures { IfOk result (λ c. app_of c ≡ lists_app name.now) }
+{
+    unskipped(alloc, name, texts)?.arg(skip_arg(alloc))
+}
+
+// The command without `--skip`: with one argument more, a proof of it takes too long.
+fn unskipped<'a>(alloc: Global, name: &'a str, texts: &Texts) -> Result<Command<'a>, AllocError>
+    ensures { IfOk result (λ c. app_of c ≡ unskipped_app name.now) }
+{
+    describe(alloc, name, texts.about, texts.at_length, help::LISTS)
+        .arg(number_arg(alloc, "workers", MAX_WORKERS, help::WORKERS))?
+        .arg(flag_arg(alloc, "count", help::COUNT))?
+        .arg(flag_arg(alloc, "packed", help::PACKED))?
+        .arg(lists_arg(alloc))
+}
+
+fn lists_arg<'a>(alloc: Global) -> Arg<'a>
+    ensures { IsArg lists_rule result }
+{
+    Arg::new(alloc, "file")
+        .value_name("FILE")
+        .required(true)
+        .action(ArgAction::Append)
+        .help(help::LIST_FILES)
+}
