@@ -1,7 +1,7 @@
 //! What other tools call the commands.
 
-/// What `rhkeys` calls the command that other tools call by this word, where it does not call one so
-/// itself. The answer may be a command of `rhpack`, to which the launcher hands it on.
+/// What `rhkeys` calls the command that other tools call by this word, where it does not call one
+/// so itself. The answer may be a command of `rhpack`, to which the launcher hands it on.
 pub fn meant(word: &str) -> Option<&'static str> {
     match word {
         "intersection" | "inter" | "and" | "common" | "comm" | "both" => Some("intersect"),

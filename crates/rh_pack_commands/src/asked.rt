@@ -3,8 +3,8 @@
 /// A command, with its arguments. `skip` lines of each text are passed by.
 #[derive(Drop)]
 pub enum Line {
-    /// Tell of each of these files in turn which lines of it are bad, and what its numbers are. None
-    /// stands for standard input.
+    /// Tell of each of these files in turn which lines of it are bad, and what its numbers are.
+    /// None stands for standard input.
     Check {
         skip: usize,
         files: Vec<String>,

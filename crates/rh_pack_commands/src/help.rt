@@ -2,7 +2,7 @@
 
 /// The program, in a line.
 pub const PROGRAM: &str =
-    "Checks lists of numbers, makes key files of them and texts of key files, and splits long lists";
+    "Checks lists of numbers, makes key files of them and texts of key files, and splits lists";
 
 /// The program, on `rhpack --help` alone.
 pub const PROGRAM_AT_LENGTH: &str = "\

@@ -26,8 +26,8 @@ use std::alloc::{AllocError, Global};
 /// The program's own name.
 pub const NAME: &str = "rhpack";
 
-/// What `words` ask for, of which the first is the name by which the program was called. Usage lines
-/// show it: `rhkeys` where the launcher of that program hands the words on.
+/// What `words` ask for, of which the first is the name by which the program was called. Usage
+/// lines show it: `rhkeys` where the launcher of that program hands the words on.
 ///
 /// `LineFault::Memory` comes only where a growth was refused.
 pub fn line(alloc: Global, words: &[String]) -> Result<Line, LineFault>
