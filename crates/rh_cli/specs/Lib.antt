@@ -2,7 +2,6 @@ pub mod Closed
 pub mod Endings
 pub mod Outlet
 pub mod Progress
-pub mod Watched
 pub mod Shared
 pub mod ByLine
 pub mod Sizes

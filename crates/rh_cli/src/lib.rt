@@ -17,7 +17,7 @@
 //!   said of its last failure.
 //! - `ProgressLine`: what it writes to its terminal, and when a line stands there. Before another
 //!   line, and where it is cleared, the one that stands is taken away.
-//! - `Watched` and `Followed` read what their reader has.
+//! - `Followed` reads what its reader has.
 //! - `Clearing` writes what is written to it to its writer, and nothing else, by a function that
 //!   requires that no line stands. `ByLine` adds what is written to it to its buffer.
 //! - `quoted`: the text in which bytes are shown, by the definition `specs/Quoted.antt`.
@@ -38,7 +38,6 @@ mod shared;
 mod showing;
 mod status;
 mod streams;
-mod watched;
 
 pub use by_line::ByLine;
 pub use closed::hold_closed;
@@ -51,4 +50,3 @@ pub use shared::{Clearing, Followed};
 pub use showing::quoted;
 pub use status::{ProgramFault, Status};
 pub use streams::{buffered_reader, buffered_writer, finish};
-pub use watched::Watched;

@@ -20,4 +20,4 @@ pub use asked::{Combination, Line};
 pub use elsewhere::meant;
 pub use laws::fixed_numbers;
 pub use limits::MAX_WORKERS;
-pub use parse::line;
+pub use parse::{NAME, line};

@@ -20,7 +20,8 @@ use rh_arguments::parsing::{
 use rh_arguments::skip::{skip_arg, skip_asked};
 use std::alloc::{AllocError, Global};
 
-const NAME: &str = "rhkeys";
+/// The program's name.
+pub const NAME: &str = "rhkeys";
 
 /// What `words` ask for, of which the first is the program's name.
 ///

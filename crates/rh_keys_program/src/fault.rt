@@ -1,11 +1,9 @@
-//! Why the program ends early, in the words that the user is told.
+//! Why a run that reads lists ends early, in the words that the user is told.
 
 use rh_cli::ProgramFault;
-use rh_key_files::{KeyFault, MAX_KEYS};
+use rh_key_files::KeyFault;
 use rh_numbers::{Excerpt, TextFault};
 use rh_shelf::ShelfFault;
-use rh_snapshot::SnapFault;
-use rh_splitting::FilesFault;
 use std::fmt::{self, Display, Formatter, Write};
 use thiserror::Error;
 
@@ -22,17 +20,6 @@ pub enum Fault {
         reason: Reason,
         found: Found,
     },
-    /// A part of a list was not written, and no other one was.
-    #[error(transparent)]
-    Part(FilesFault),
-    /// A part of a list is too full; so many parts would do, by the size of the input. (All repeats
-    /// of a number go to one part, which no number of parts helps.)
-    #[error("part {part:03}: more than {} keys; by the size of the input {parts} parts would do, \
-         where no number repeats so often", MAX_KEYS)]
-    TooFull {
-        part: u64,
-        parts: u64,
-    },
     #[error("standard input is named twice")]
     InputTwice,
     /// Of one list all but `union` would write its numbers.
@@ -40,13 +27,9 @@ pub enum Fault {
     OneList,
     #[error("--count and --packed are asked for at once")]
     TwoOutputs,
-    #[error("the input is no file whose size is known: give --parts N")]
-    Size,
-    #[error("bad name: 1 to 200 bytes of printable ASCII, no space or slash")]
-    Name,
 }
 
-/// What is wrong with what was read.
+/// What is wrong with a list that was read.
 #[derive(Clone, Copy, Debug, PartialEq, Eq, Error)]
 pub enum InputFault {
     /// Never `ShelfFault::Write`.
@@ -56,8 +39,6 @@ pub enum InputFault {
     Text(TextFault),
     #[error(transparent)]
     Keys(KeyFault),
-    #[error(transparent)]
-    Snap(SnapFault),
 }
 
 /// What was read.

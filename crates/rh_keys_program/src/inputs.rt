@@ -1,6 +1,6 @@
 //! What the system says of what is read, and what is told of it.
 
-ghost use Rattle.std.specs.Prelude.{◌≡◌, ◌↔◌, ℕ, IfSome};
+ghost use Rattle.std.specs.Prelude.{◌≡◌, ◌≢◌, ◌↔◌, ℕ, IfSome};
 ghost use Rattle.std.specs.Fs.{IsDir, file_type};
 ghost use Rattle.rh_keys_program.specs.Endings.{ending_by, ending_by_input};
 ghost use Rattle.rh_keys_program.specs.Told.{Explains, IsFolderOrNone, IsOfLine};
@@ -14,7 +14,6 @@ use rh_key_files::KeyFault;
 use rh_list_files::INPUT;
 use rh_numbers::{TextFault, line_at};
 use rh_shelf::ShelfFault;
-use rh_snapshot::SnapFault;
 use std::fs::{self, Files, Metadata};
 use std::io::ErrorKind;
 use std::os::unix::fs::{FileTypeExt, MetadataExt};
@@ -41,6 +40,14 @@ impl Place {
         match self {
             Place::File(path) if path.as_str() != INPUT => Some(path),
             _ => None,
+        }
+    }
+
+    /// How it is named: `-` where it is standard input.
+    pub fn named(&self) -> &str {
+        match self {
+            Place::Input => INPUT,
+            Place::File(path) => path.as_str(),
         }
     }
 
@@ -71,15 +78,14 @@ fn pipe_at(files: &impl Files, path: &str) -> Option<(u64, u64)> {
 }
 
 /// What is told of this fault of what was read. Want of memory is no fault of that.
-pub(crate) fn told_of_input(files: &impl Files, place: Place, fault: InputFault) -> Fault
+pub fn told_of_input(files: &impl Files, place: Place, fault: InputFault) -> Fault
     ensures ending { ending_by result ≡ ending_by_input fault }
     ensures tells { TellsInput (path_of place) fault result }
 {
     match fault {
         InputFault::Open(ShelfFault::Memory)
         | InputFault::Text(TextFault::Memory)
-        | InputFault::Keys(KeyFault::Memory)
-        | InputFault::Snap(SnapFault::Memory) => Fault::Program(ProgramFault::Memory),
+        | InputFault::Keys(KeyFault::Memory) => Fault::Program(ProgramFault::Memory),
         _ => {
             let reason = reason_of(files, &place, fault);
             let found = found_in(files, &place, fault);
@@ -93,26 +99,43 @@ pub(crate) fn told_of_input(files: &impl Files, place: Place, fault: InputFault)
     }
 }
 
-/// Why it was not opened or read, as far as the system says it now. Of standard input it says
-/// nothing: where that is closed, a folder stands in its place.
+/// Why it was not opened or read, as far as the system says it now.
 fn reason_of(files: &impl Files, place: &Place, fault: InputFault) -> Reason
     ensures { Explains fault result }
+{
+    match fault {
+        InputFault::Open(_) => reason_unopened(files, place),
+        InputFault::Text(TextFault::Read) | InputFault::Keys(KeyFault::Read) => {
+            reason_unread(files, place)
+        }
+        _ => Reason::Unknown,
+    }
+}
+
+/// Why it was not opened. Of standard input the system says nothing: where that is closed, a folder
+/// stands in its place.
+fn reason_unopened(files: &impl Files, place: &Place) -> Reason
+    ensures { result ≢ Reason.Folder }
 {
     let Some(path) = place.file() else {
         return Reason::Unknown;
     };
-    match fault {
-        InputFault::Open(_) => match fs::open(files, path) {
-            Ok(_) => Reason::Unknown,
-            Err(error) => reason_of_kind(error.kind()),
-        },
-        InputFault::Text(TextFault::Read)
-        | InputFault::Keys(KeyFault::Read)
-        | InputFault::Snap(SnapFault::Read) => match fs::metadata(files, path) {
-            Ok(metadata) => reason_in(&metadata),
-            Err(_) => Reason::Unknown,
-        },
-        _ => Reason::Unknown,
+    match fs::open(files, path) {
+        Ok(_) => Reason::Unknown,
+        Err(error) => reason_of_kind(error.kind()),
+    }
+}
+
+/// Why a read of it failed: it may be a folder. Of standard input the system says nothing.
+pub fn reason_unread(files: &impl Files, place: &Place) -> Reason
+    ensures { IsFolderOrNone result }
+{
+    let Some(path) = place.file() else {
+        return Reason::Unknown;
+    };
+    match fs::metadata(files, path) {
+        Ok(metadata) => reason_in(&metadata),
+        Err(_) => Reason::Unknown,
     }
 }
 

@@ -8,8 +8,8 @@ ghost use Rattle.rh_keys_program.specs.Told.{TellsCommand, TellsList, path_of};
 
 use crate::fault::{Fault, InputFault, Place};
 use crate::inputs::told_of_input;
-use rh_cli::{ProgramFault, size_of};
-use rh_key_commands::line::MAX_WORKERS;
+use rh_cli::{ProgramFault, STANDARD_INPUT, size_of};
+use rh_key_commands::MAX_WORKERS;
 use rh_list_files::{CommandFault, FileFault, INPUT};
 use rh_lists::ListFault;
 use std::fs::Files;
@@ -41,7 +41,15 @@ pub fn times_named(paths: &[String]) -> usize
 pub fn bytes_of(files: &impl Files, paths: &[String]) -> Option<u64> {
     let mut total = 0u64;
     for path in paths {
-        let size = size_of(files, path)?;
+        let is_input = path.as_str() == INPUT;
+        let size = size_of(
+            files,
+            if is_input {
+                STANDARD_INPUT
+            } else {
+                path.as_str()
+            },
+        )?;
         total = total.saturating_add(size);
     }
     Some(total)

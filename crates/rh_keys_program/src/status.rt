@@ -1,18 +1,16 @@
-//! How the program ends.
+//! How a run ends that reads lists.
 
 ghost use Rattle.std.specs.Prelude.{◌≡◌, ◌≢◌, IfSome, Some, false, true};
 ghost use Rattle.std.specs.declared.io.ErrorKind.TheVariants.{BrokenPipe};
 ghost use Rattle.rh_cli.specs.Notes.{reason_of};
 ghost use Rattle.rh_cli.specs.Outlet.{last_failure};
-ghost use Rattle.rh_keys_program.specs.Endings.{ending, ending_by, ending_by_input, ending_by_part};
+ghost use Rattle.rh_keys_program.specs.Endings.{ending, ending_by, ending_by_input};
 
 use crate::fault::{Fault, InputFault};
 use rh_cli::{Outlet, ProgramFault, Reason, Status, reason_of};
-use rh_endings::{status_of_keys, status_of_snapshot};
 use rh_key_files::KeyFault;
 use rh_numbers::TextFault;
 use rh_shelf::ShelfFault;
-use rh_splitting::{FilesFault, SplitFault};
 
 impl Fault {
     ghost use Rattle.std.specs.Prelude.{◌≡◌};
@@ -25,10 +23,7 @@ impl Fault {
         match self {
             Fault::Program(fault) => fault.status(),
             Fault::Input { fault, .. } => status_of_input(fault),
-            Fault::Part(fault) => status_of_part(fault),
-            Fault::TooFull { .. } => Status::Refused,
-            Fault::Name | Fault::Size | Fault::InputTwice | Fault::OneList | Fault::TwoOutputs =>
-                Status::CommandLine,
+            Fault::InputTwice | Fault::OneList | Fault::TwoOutputs => Status::CommandLine,
         }
     }
 }
@@ -40,60 +35,48 @@ fn status_of_input(fault: &InputFault) -> Status
         InputFault::Open(ShelfFault::Missing) => Status::Refused,
         InputFault::Open(ShelfFault::Memory) => Status::Memory,
         InputFault::Open(ShelfFault::Write) => Status::Write,
-        InputFault::Text(TextFault::Memory) => Status::Memory,
-        InputFault::Text(_) => Status::Refused,
-        InputFault::Keys(fault) => status_of_keys(fault),
-        InputFault::Snap(fault) => status_of_snapshot(fault),
+        InputFault::Text(TextFault::Memory) | InputFault::Keys(KeyFault::Memory) => Status::Memory,
+        InputFault::Text(_) | InputFault::Keys(_) => Status::Refused,
     }
 }
 
-fn status_of_part(fault: &FilesFault) -> Status
-    ensures { result ≡ ending_by_part fault.now }
-{
-    match fault {
-        FilesFault::Split(SplitFault::Text(TextFault::Memory)) => Status::Memory,
-        FilesFault::Split(SplitFault::Keys(KeyFault::Memory)) => Status::Memory,
-        FilesFault::Split(SplitFault::Write { .. }) => Status::Write,
-        FilesFault::Split(_) => Status::Refused,
-        FilesFault::Create { .. }
-        | FilesFault::TooManyOpen { .. }
-        | FilesFault::Left { .. }
-        | FilesFault::Write { .. } => Status::Write,
-        FilesFault::Memory => Status::Memory,
-    }
-}
-
-/// Tells the user as far as standard error takes it, with the reason where one is known.
-pub fn tell(rt: &impl Eprint, fault: &Fault, reason: Option<Reason>) -> Status
+/// Tells the user under this name of the program, as far as standard error takes it, with the
+/// reason where one is known.
+pub fn tell(rt: &impl Eprint, name: &str, fault: &Fault, reason: Option<Reason>) -> Status
     ensures { result ≡ ending_by fault.now }
 {
     let _ = match (fault, reason) {
-        (_, Some(reason)) => eprintln!(rt; "rhkeys: {fault}: {reason}"),
+        (_, Some(reason)) => eprintln!(rt; "{name}: {fault}: {reason}"),
         // More memory is seldom to be had, but a list can be split.
         (Fault::Program(ProgramFault::Memory), None) => {
-            eprintln!(rt; "rhkeys: {fault}; see rhkeys-combine --help")
+            eprintln!(rt; "{name}: {fault}; see rhkeys-combine --help")
         }
-        (_, None) => eprintln!(rt; "rhkeys: {fault}"),
+        (_, None) => eprintln!(rt; "{name}: {fault}"),
     };
     fault.status()
 }
 
-/// How the program ends that came to this, and wrote to this outlet. A fault is told, but where the
-/// reader of the output has gone away: so the usual tools do, which the signal of a closed pipe
-/// ends.
-pub fn conclude<W>(rt: &impl Eprint, outcome: &Result<Status, Fault>, outlet: &Outlet<W>) -> Status
+/// How the program of this name ends that came to this, and wrote to this outlet. A fault is told,
+/// but where the reader of the output has gone away: so the usual tools do, which the signal of a
+/// closed pipe ends.
+pub fn conclude<W>(
+    rt: &impl Eprint,
+    name: &str,
+    outcome: &Result<Status, Fault>,
+    outlet: &Outlet<W>,
+) -> Status
     ensures gone { last_failure outlet.now ≡ Some BrokenPipe → result ≡ ending outcome.now true }
     ensures there { last_failure outlet.now ≢ Some BrokenPipe → result ≡ ending outcome.now false }
 {
     match outcome {
         Ok(status) => *status,
         Err(_) if outlet.is_gone() => Status::ReaderGone,
-        Err(fault) => tell(rt, fault, reason_unwritten(fault, outlet)),
+        Err(fault) => tell(rt, name, fault, reason_unwritten(fault, outlet)),
     }
 }
 
 /// Why the output could not be written, where that is the fault and the system says so.
-fn reason_unwritten<W>(fault: &Fault, outlet: &Outlet<W>) -> Option<Reason>
+pub fn reason_unwritten<W>(fault: &Fault, outlet: &Outlet<W>) -> Option<Reason>
     ensures { IfSome result (λ reason. (fault.now ≡ Fault.Program ProgramFault.Write)
         × IfSome (last_failure outlet.now) (λ kind. reason_of kind ≡ Some reason)) }
 {

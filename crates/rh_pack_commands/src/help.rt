@@ -83,7 +83,7 @@ one a line, in decimal digits and in their order: those of each file after those
 before.";
 
 /// The argument FILE.
-pub const FILES: &str = "Key files, or snapshots; - alone or none: standard input";
+pub const FILES: &str = "Key files, or snapshots; - or none: standard input";
 
 /// The flag `--snapshot`.
 pub const SNAPSHOT: &str = "Read snapshots, and write the keys of each in rising order";

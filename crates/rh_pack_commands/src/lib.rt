@@ -1,6 +1,6 @@
 //! The command line of `rhpack`.
 //!
-//! `rh_pack_program` and `rhpack` stand on it.
+//! `rhpack` stands on it.
 //!
 //! Proved:
 //!

@@ -8,8 +8,8 @@ use Rattle.rh_keys_program.specs.declared.fault.Fault.{Fault}
 use Rattle.rh_keys_program.specs.declared.fault.Fault.TheVariants as fault
 use Rattle.rh_combine.specs.declared.how.How.{How}
 use Rattle.rh_combine.specs.declared.how.How.TheVariants as made
-use Rattle.rh_key_commands.specs.declared.line.asked.Combination.{Combination}
-use Rattle.rh_key_commands.specs.declared.line.asked.Combination.TheVariants as asked
+use Rattle.rh_key_commands.specs.declared.asked.Combination.{Combination}
+use Rattle.rh_key_commands.specs.declared.asked.Combination.TheVariants as asked
 use Rattle.rh_list_commands.specs.declared.output.Output.{Output}
 use Rattle.rh_list_commands.specs.declared.output.Output.TheVariants as output
 

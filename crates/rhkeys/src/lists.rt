@@ -1,4 +1,4 @@
-//! The commands that make one list of several, between real files and streams.
+//! The commands, between real files and streams.
 
 ghost use Rattle.std.specs.Prelude.{◌≡◌, ◌≢◌, ◌<◌, Err, None, false, map, string_bytes, vec_len};
 ghost use Rattle.std.specs.List.{count_by};
@@ -9,7 +9,7 @@ use rh_bytes::{Counted, Progress};
 use rh_cli::Status;
 use rh_combine::How;
 use rh_forks::{Team, Workers};
-use rh_key_commands::line::Combination;
+use rh_key_commands::{Combination, Line};
 use rh_keys_program::{Fault, is_input_again, times_named, with_path, workers_of};
 use rh_list_commands::{Job, Output, combine_files};
 use rh_lists::Skipping;
@@ -18,22 +18,11 @@ use std::fs::Files;
 use std::io::Write;
 use std::thread::Threads;
 
-/// What the command line asks for.
-#[derive(Drop)]
-pub struct Asked {
-    pub combination: Combination,
-    pub workers: usize,
-    pub count: bool,
-    pub packed: bool,
-    pub skip: u64,
-    pub files: Vec<String>,
-}
-
 /// Writes what comes of the lists in these files.
 pub fn combine<W: Write + Drop, P: Progress>(
     rt: &(impl Files + Input + Threads + Sync + AllocGlobal),
     writer: W,
-    asked: Asked,
+    asked: Line,
     progress: &mut P,
 ) -> Result<Status, Fault>
     ensures outputs { output_asked asked.count asked.packed ≡ None → result ≡ Err Fault.TwoOutputs }
@@ -54,8 +43,9 @@ pub fn combine<W: Write + Drop, P: Progress>(
     if named > 1 || (named == 1 && is_input_again(rt, &asked.files)) {
         return Err(Fault::InputTwice);
     }
+    let skip = asked.skip as u64;
     let mut shelf = CountedShelf::new(FileShelf::new(rt));
-    let mut input = Counted::new(Skipping::new(asked.skip, rt.reader()));
+    let mut input = Counted::new(Skipping::new(skip, rt.reader()));
     let mut writer = Counted::new(writer);
     let count = workers_of(rt, asked.workers);
     let team = Team {
@@ -67,7 +57,7 @@ pub fn combine<W: Write + Drop, P: Progress>(
         how: how_of(asked.combination),
         output,
         paths: &asked.files,
-        skip: asked.skip,
+        skip,
     };
     let outcome = combine_files(&team, &job, &mut shelf, &mut input, &mut writer, progress);
     match outcome {
