@@ -1,4 +1,4 @@
-// What `rhkeys pack` and `rhkeys list` do, as a plain program without proofs, to measure beside: with `pack` it reads a
+// What `rhpack pack` and `rhpack list` do, as a plain program without proofs, to measure beside: with `pack` it reads a
 // text of numbers on standard input and writes their key file, with `list` the other way round.
 use std::io::{self, BufRead, BufReader, BufWriter, Read, Write};
 

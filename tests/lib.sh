@@ -30,9 +30,9 @@ finish() {
     exit "$failed"
 }
 
-# needs THING..: what the script needs of what is built here: rhset, rhkeys, rhplay, rh_phase_bench, the library, or nothing. It is
-# built where it is not, or the script ends here, with status 77 where there is no toolchain. tests/run reads this line too, so that
-# it can have all built first.
+# needs THING..: what the script needs of what is built here: rhset, rhkeys, rhpack, rhplay, rh_phase_bench, the library, or nothing.
+# It is built where it is not, or the script ends here, with status 77 where there is no toolchain. tests/run reads this line too, so
+# that it can have all built first.
 needs() {
     local thing
     [ "$*" != nothing ] || return 0
