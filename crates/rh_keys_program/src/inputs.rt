@@ -22,7 +22,8 @@ use std::os::unix::fs::{FileTypeExt, MetadataExt};
 const HEAD_BYTES: usize = 4;
 
 impl Place {
-    ghost use Rattle.std.specs.Prelude.{◌≡◌, [], ◌∷◌, ◌⊎◌, Some, None, map, string_bytes};
+    ghost use Rattle.std.specs.Prelude.{◌≡◌, [], ◌∷◌, ◌⊎◌, Some, None, map, string_bytes, unwrap_or};
+    ghost use Rattle.rh_list_files.specs.declared.reading.TheConstants.{INPUT};
     ghost use Rattle.rh_keys_program.specs.Told.{path_of};
 
     /// The one file that is named, or standard input where none is.
@@ -44,7 +45,9 @@ impl Place {
     }
 
     /// How it is named: `-` where it is standard input.
-    pub fn named(&self) -> &str {
+    pub fn named(&self) -> &str
+        ensures { result.now ≡ unwrap_or (path_of self.now) INPUT.now }
+    {
         match self {
             Place::Input => INPUT,
             Place::File(path) => path.as_str(),
