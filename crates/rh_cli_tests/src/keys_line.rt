@@ -1,5 +1,6 @@
 use rh_arguments::LineFault;
-use rh_key_commands::{Combination, Line, line, meant};
+use rh_combine::{Form, How};
+use rh_key_commands::{Line, line, meant};
 use std::alloc::Global;
 use std::test::Fail;
 
@@ -28,15 +29,6 @@ fn asked_of(alloc: Global, words: &[&str]) -> Result<Line, Fail> {
     }
 }
 
-fn word_of(combination: Combination) -> &'static str {
-    match combination {
-        Combination::Intersect => "intersect",
-        Combination::Union => "union",
-        Combination::Subtract => "subtract",
-        Combination::Xor => "xor",
-    }
-}
-
 const SKIPS: &[(&[&str], usize)] = &[
     (&["union", "a"], 0),
     (&["union", "--skip", "1", "a"], 1),
@@ -51,33 +43,34 @@ fn lines_are_passed_by(rt: HostRuntime) -> Result<(), Fail> {
     Ok(())
 }
 
-type Flags = (usize, bool, bool);
+// What is made, what is written of it, by how many workers, and of which files.
+type Asked = (How, Option<Form>, usize, &'static [&'static str]);
 
-const COMBINATIONS: &[(&[&str], Flags, &[&str])] = &[
-    (&["intersect", "a", "b"], (0, false, false), &["a", "b"]),
+const COMBINATIONS: &[(&[&str], Asked)] = &[
+    (
+        &["intersect", "a", "b"],
+        (How::Intersect, Some(Form::Lines), 0, &["a", "b"]),
+    ),
     (
         &["union", "b", "--count", "-", "b"],
-        (0, true, false),
-        &["b", "-", "b"],
+        (How::Union, Some(Form::Count), 0, &["b", "-", "b"]),
     ),
     (
         &["subtract", "--packed", "--workers", "64", "a", "--", "--b"],
-        (64, false, true),
-        &["a", "--b"],
+        (How::Subtract, Some(Form::Packed), 64, &["a", "--b"]),
     ),
     (
         &["xor", "--count", "--packed", "--workers=+2", ""],
-        (2, true, true),
-        &[""],
+        (How::Xor, None, 2, &[""]),
     ),
 ];
 
 #[test]
 fn words_are_commands(rt: HostRuntime) -> Result<(), Fail> {
-    for &(words, flags, files) in COMBINATIONS {
+    for &(words, (how, form, workers, files)) in COMBINATIONS {
         let line = asked_of(rt.alloc(), words)?;
-        assert_eq!(rt; word_of(line.combination), words[0], "{words:?}");
-        assert_eq!(rt; (line.workers, line.count, line.packed), flags, "{words:?}");
+        assert_eq!(rt; (line.how, line.form), (how, form), "{words:?}");
+        assert_eq!(rt; line.workers, workers, "{words:?}");
         assert_eq!(rt; line.files.len(), files.len(), "{words:?}");
         for (file, name) in line.files.iter().zip(files) {
             assert_eq!(rt; file.as_str(), *name, "{words:?}");

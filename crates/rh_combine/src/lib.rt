@@ -32,7 +32,9 @@ mod how;
 mod laws;
 mod ranges;
 mod table;
+mod wanted;
 
 pub use how::How;
 pub use laws::{all_in_range, members, range_of_lists, ranges_join};
 pub use ranges::combine;
+pub use wanted::{Form, Wanted};

@@ -1,13 +1,12 @@
 //! Lists at paths, over a shelf of which the failed reads are counted.
 
 use rh_bytes::{Counted, Nobody};
-use rh_combine::How;
+use rh_combine::{Form, How, Wanted};
 use rh_faulty::{FaultyShelf, ShelfFailure};
 use rh_forks::{Team, Workers};
 use rh_key_files::KeyFault;
-use rh_list_commands::{Job, Output, combine_files};
-use rh_list_files::{CommandFault, FileFault, read_paths};
-use rh_lists::ListFault;
+use rh_list_commands::{Job, combine_files};
+use rh_lists::{CommandFault, FileFault, ListFault, read_paths};
 use rh_numbers::TextFault;
 use rh_shelf::{CountedShelf, MemShelf, Shelf, ShelfFault};
 use std::alloc::Global;
@@ -106,10 +105,12 @@ fn union<T: Threads + Sync>(
         workers: Workers { count: 1 },
     };
     let job = Job {
-        skip: 0,
-        how: How::Union,
-        output: Output::Lines,
+        wanted: Wanted {
+            how: How::Union,
+            form: Form::Lines,
+        },
         paths: &paths,
+        skip: 0,
     };
     let mut input = Counted::new(b"".as_slice());
     let mut writer = Counted::new(Vec::new(alloc));

@@ -89,28 +89,10 @@ const NONE_TOLD: Told = Told {
 };
 
 #[test]
-fn by_one_worker_and_by_several(rt: HostRuntime) -> Result<(), Fail> {
-    for workers in [1usize, 2, 3, 4, 64] {
-        let lists = two_lists(rt.alloc())?;
-        let team = Team {
-            rt: &rt,
-            alloc: rt.alloc(),
-            workers: Workers { count: workers },
-        };
-        let found = combine(&team, How::Intersect, lists)?;
-        assert_eq!(rt; found.len(), 33_334, "{workers} workers");
-        for (i, number) in found.iter().enumerate() {
-            assert_eq!(rt; *number, 6 * i as u64);
-        }
-    }
-    Ok(())
-}
-
-#[test]
 fn the_same_text_by_any_number_of_workers(rt: HostRuntime) -> Result<(), Fail> {
     for (form, bytes) in [
         (Form::Lines, 214_818),
-        (Form::Keys, 266_672),
+        (Form::Packed, 266_672),
         (Form::Count, 0),
     ] {
         let wanted = Wanted {

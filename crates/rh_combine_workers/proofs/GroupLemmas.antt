@@ -1,10 +1,9 @@
 -- What came of consecutive ranges, one after the other.
-use Rattle.std.proofs.Common.{◌≡◌, ◌∙◌, ap, sym, refl, ℕ, zero, suc, ◌+◌, ◌-◌, ◌*◌, ◌<◌, ◌≤◌, arith, List, [], ◌∷◌, ◌++◌, length, get_or, Ok, Result}
-use Rattle.std.specs.Prelude.{All, map, slice_index, sum_by}
+use Rattle.std.proofs.Common.{◌≡◌, ◌∙◌, ap, sym, subst, ℕ, zero, suc, ◌+◌, ◌-◌, ◌*◌, ◌^◌, ◌<◌, ◌≤◌, arith, List, [], ◌∷◌, ◌++◌, length, get_or, Ok, Result}
+use Rattle.std.specs.Prelude.{All, map, min, slice_index, sum_by}
 use Rattle.std.specs.List.{flat_map}
 use Rattle.std.proofs.Math.Nat.{add-mul}
 use Rattle.std.proofs.lemmas.List.{length-append}
-use Rattle.std.proofs.lemmas.List.Concat.{flat_map-append}
 use Rattle.std.proofs.lemmas.List.Sums.{sum_by-cons}
 use Rattle.rh_layout.specs.Key.{IsKey}
 use Rattle.rh_layout.specs.declared.limits.TheConstants.{MAX_KEY}
@@ -17,11 +16,12 @@ use Rattle.rh_combine.proofs.RangeLaws.{of_all, of_two}
 use Rattle.rh_combine.proofs.RangeLemmas.{all_keys, within-none}
 use Rattle.rh_combine_workers.specs.declared.group.Group.{Group}
 use Rattle.rh_borders.specs.declared.whole.CutLists.{CutLists}
-use Rattle.rh_combine_workers.specs.declared.wanted.Wanted.{Wanted}
+use Rattle.rh_combine.specs.declared.wanted.Wanted.{Wanted}
 use Rattle.rh_borders.specs.Borders.{AreBorders, between}
 use Rattle.rh_borders.specs.Cut.{AreLists}
-use Rattle.rh_combine_workers.specs.Groups.{IsGroup, TellsGroup, TellsShare, group_edge, parts_of}
-use Rattle.rh_combine_workers.specs.Spelled.{spelled, spelling_of}
+use Rattle.rh_combine_workers.specs.Groups.{IsGroup, IsRound, TellsGroup, group_edge, parts_of}
+use Rattle.rh_combine_workers.specs.Spelled.{spelled}
+use Rattle.rh_combine_workers.proofs.SpelledLemmas.{spelled-append, spelled-none}
 use Rattle.rh_borders.proofs.BorderLemmas.{rise_to}
 use Rattle.rh_borders.proofs.CutLemmas.{as_many, one_done}
 
@@ -58,22 +58,21 @@ module _ (how : How) (lists : List (List ℕ)) where
         ∙ ap (λ n. g (of (at 0) (at n))) many
 
     pub all_counts : (count : V → ℕ) (groups : List V) (at : ℕ → ℕ) → ((i : ℕ) → i < length groups → at i ≤ at (i + 1))
-        → ((i : ℕ) (d : V) → i < length groups → count (get_or groups i d) ≡ length (of (at i) (at (i + 1))))
-        → sum_by count groups ≡ length (of (at 0) (at (length groups)))
-    all_counts count [] at rise each = sym (ap length (within-none (at 0) (answer how lists)))
+        → ((i : ℕ) (d : V) → i < length groups → count (get_or groups i d) ≡ min (length (of (at i) (at (i + 1)))) (2 ^ 64 - 1))
+        → min (sum_by count groups) (2 ^ 64 - 1) ≡ min (length (of (at 0) (at (length groups)))) (2 ^ 64 - 1)
+    all_counts count [] at rise each = omega (arith, ap length (within-none (at 0) (answer how lists)))
     all_counts count (x ∷ groups) at rise each =
         let many : length groups + 1 ≡ length (x ∷ groups) = omega arith in
         let later : (i : ℕ) → suc i ≡ i + 1 = λ i. omega arith in
-        let this : count x ≡ length (of (at 0) (at 1)) = each 0 x (omega arith) in
-        let others : sum_by count groups ≡ length (of (at 1) (at (length groups + 1))) =
+        let this : count x ≡ min (length (of (at 0) (at 1))) (2 ^ 64 - 1) = each 0 x (omega arith) in
+        let others : min (sum_by count groups) (2 ^ 64 - 1) ≡ min (length (of (at 1) (at (length groups + 1)))) (2 ^ 64 - 1) =
         all_counts count groups (λ i. at (i + 1)) (λ i inside. rise (i + 1) (omega (arith, inside)))
-        (λ i d inside. each (suc i) d (omega (arith, inside)) ∙ (λ j. length (of (at (later i j)) (at (later i j + 1))))) in
+        (λ i d inside. each (suc i) d (omega (arith, inside)) ∙ (λ j. min (length (of (at (later i j)) (at (later i j + 1)))) (2 ^ 64 - 1))) in
         let behind : at 1 ≤ at (length groups + 1) = rising (λ i. at (i + 1)) (length groups) (λ i inside. rise (i + 1) (omega (arith, inside))) in
-        sum_by-cons count x groups
-        ∙ (λ j. this j + others j)
-        ∙ sym (ap length (of_two (at 0) (at 1) (at (length groups + 1)) (rise 0 (omega arith)) behind how lists)
-        ∙ length-append (of (at 0) (at 1)) (of (at 1) (at (length groups + 1))))
-        ∙ ap (λ n. length (of (at 0) (at n))) many
+        let all : length (of (at 0) (at (length groups + 1))) ≡ length (of (at 0) (at 1)) + length (of (at 1) (at (length groups + 1))) =
+        ap length (of_two (at 0) (at 1) (at (length groups + 1)) (rise 0 (omega arith)) behind how lists)
+        ∙ length-append (of (at 0) (at 1)) (of (at 1) (at (length groups + 1))) in
+        omega (arith, sum_by-cons count x groups, this, others, all) ∙ ap (λ n. min (length (of (at 0) (at n))) (2 ^ 64 - 1)) many
 
 -- ---- the edges of groups
 
@@ -111,27 +110,22 @@ module _ {E : Type 0} (wanted : Wanted) (cut : CutLists) (lists : List (List ℕ
 
   pub round_bytes : flat_map (λ g. g.bytes.items) done ≡ spelled wanted.form (between cut.borders.values.items first (group_edge first n size (parts_of cut)) (answer wanted.how lists))
   round_bytes =
-      all_numbers wanted.how lists (λ (g : Group). g.bytes.items) (spelled wanted.form) refl (flat_map-append (spelling_of wanted.form)) done (border_at cut are.borders first size) (λ i _. border-rises cut are.borders first size i) (λ i d here. (group_is i d here).bytes)
+      all_numbers wanted.how lists (λ (g : Group). g.bytes.items) (spelled wanted.form) (spelled-none wanted.form) (spelled-append wanted.form) done (border_at cut are.borders first size) (λ i _. border-rises cut are.borders first size i) (λ i d here. (group_is i d here).bytes)
       ∙ (λ j. spelled wanted.form (between cut.borders.values.items (begins j) (group_edge first (so_many j) size (parts_of cut)) (answer wanted.how lists)))
 
-  pub round_count : sum_by (λ g. g.count) done ≡ length (between cut.borders.values.items first (group_edge first n size (parts_of cut)) (answer wanted.how lists))
+  pub round_count : min (sum_by (λ g. g.count) done) (2 ^ 64 - 1) ≡ min (length (between cut.borders.values.items first (group_edge first n size (parts_of cut)) (answer wanted.how lists))) (2 ^ 64 - 1)
   round_count =
       all_counts wanted.how lists (λ (g : Group). g.count) done (border_at cut are.borders first size) (λ i _. border-rises cut are.borders first size i) (λ i d here. (group_is i d here).count)
-      ∙ (λ j. length (between cut.borders.values.items (begins j) (group_edge first (so_many j) size (parts_of cut)) (answer wanted.how lists)))
+      ∙ (λ j. min (length (between cut.borders.values.items (begins j) (group_edge first (so_many j) size (parts_of cut)) (answer wanted.how lists))) (2 ^ 64 - 1))
 
--- ---- the shares of all workers
-
-module _ {V E : Type 0} (items : V → List ℕ) (how : How) (cut : CutLists) (lists : List (List ℕ)) (are : AreLists cut lists) (size n : ℕ) (done : List V) (tried : List (Result V E))
-    (is : map Ok done ≡ tried) (many : length tried ≡ n) (each : (i : ℕ) (d : Result V E) → i < n → TellsShare items how cut size i (get_or tried i d)) (enough : parts_of cut ≤ n * size) where
-  pub all_shares : flat_map items done ≡ between cut.borders.values.items 0 (parts_of cut) (answer how lists)
-  all_shares =
-      let so_many : length done ≡ n = as_many done tried is ∙ many in
-      let begins : group_edge 0 0 size (parts_of cut) ≡ 0 = edge-first 0 size (parts_of cut) (omega arith) in
-      let ends : group_edge 0 n size (parts_of cut) ≡ parts_of cut = omega (arith, enough) in
-      all_numbers how lists items (λ l. l) refl (λ _ _. refl) done (border_at cut are.borders 0 size) (λ i _. border-rises cut are.borders 0 size i)
-      (λ i d here. one_done (λ v. items v ≡ between cut.borders.values.items (group_edge 0 i size (parts_of cut)) (group_edge 0 (i + 1) size (parts_of cut)) (answer how lists)) done tried i d is here ((each i (Ok d) (omega (arith, here, so_many))).is lists are))
-      ∙ ap (λ m. between cut.borders.values.items (group_edge 0 0 size (parts_of cut)) (group_edge 0 m size (parts_of cut)) (answer how lists)) so_many
-      ∙ (λ j. between cut.borders.values.items (begins j) (ends j) (answer how lists))
+-- of no part come no groups
+pub no_round : (wanted : Wanted) (cut : CutLists) (p q : ℕ) → p ≡ q → IsRound wanted cut p q []
+no_round wanted cut p q same =
+    subst (λ r. IsRound wanted cut p r []) same
+    (record {
+      bytes = λ lists are. sym (ap (spelled wanted.form) (within-none (slice_index cut.borders.values.items p) (answer wanted.how lists)) ∙ spelled-none wanted.form);
+      count = λ lists are. omega (arith, ap length (within-none (slice_index cut.borders.values.items p) (answer wanted.how lists)));
+    })
 
 -- ---- all parts
 

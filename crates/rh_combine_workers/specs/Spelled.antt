@@ -1,16 +1,12 @@
 -- Numbers as they are written.
 use Rattle.std.specs.Prelude.{ℕ, List, []}
-use Rattle.std.specs.List.{flat_map}
-use Rattle.rh_bytes.specs.Input.{eight_bytes}
-use Rattle.rh_numbers.specs.Writing.{number_line}
-use Rattle.rh_combine_workers.specs.declared.form.Form.{Form}
-use Rattle.rh_combine_workers.specs.declared.form.Form.TheVariants.{Lines, Keys, Count}
+use Rattle.rh_combine.specs.declared.wanted.Form.{Form}
+use Rattle.rh_combine.specs.declared.wanted.Form.TheVariants.{Lines, Count, Packed}
+use Rattle.rh_key_files.specs.KeyFile.{spelled_keys}
+use Rattle.rh_numbers.specs.Writing.{text_of}
 
-abbrev pub spelling_of : Form → ℕ → List ℕ
-spelling_of Lines n = number_line n
-spelling_of Keys n = eight_bytes n
-spelling_of Count n = []
-
--- the numbers one after the other
+-- the numbers one after the other: where they are counted nothing of them, and of a key file what stands behind its header
 abbrev pub spelled : Form → List ℕ → List ℕ
-spelled form numbers = flat_map (spelling_of form) numbers
+spelled Lines numbers = text_of numbers
+spelled Count numbers = []
+spelled Packed numbers = spelled_keys numbers

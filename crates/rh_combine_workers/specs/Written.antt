@@ -9,8 +9,8 @@ use Rattle.rh_combine.specs.Combine.{answer}
 use Rattle.rh_combine.specs.declared.how.How.{How}
 use Rattle.rh_combine_workers.specs.declared.fault.CombineFault.{CombineFault}
 use Rattle.rh_combine_workers.specs.declared.fault.CombineFault.TheVariants.{Write}
-use Rattle.rh_combine_workers.specs.declared.form.Form.{Form}
-use Rattle.rh_combine_workers.specs.declared.wanted.Wanted.{Wanted}
+use Rattle.rh_combine.specs.declared.wanted.Form.{Form}
+use Rattle.rh_combine.specs.declared.wanted.Wanted.{Wanted}
 use Rattle.rh_combine_workers.specs.Spelled.{spelled}
 
 -- what comes of the lists was written and counted, or, where that failed, a front of it was written

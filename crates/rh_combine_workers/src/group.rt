@@ -1,17 +1,19 @@
 //! Groups of consecutive parts, worked out side by side.
 
 ghost use Rattle.std.specs.Prelude.{◌≡◌, ℕ, List, ◌+◌, ◌-◌, ◌^◌, ◌<◌, ◌≤◌, IfOk, Ok, length, map, min, slice_index_or, sum_by};
-ghost use Rattle.rh_combine_workers.specs.Groups.{TellsGroup, group_edge};
+ghost use Rattle.rh_borders.specs.Cut.{AreLists};
+ghost use Rattle.rh_combine_workers.specs.Groups.{IsGroup, IsRound, TellsGroup, group_edge, parts_of};
 
 use crate::form::spell;
-use crate::part::of_parts;
-use crate::wanted::Wanted;
+use crate::part::of_part;
 use rh_borders::CutLists;
+use rh_combine::Wanted;
 use rh_forks::{Team, map_indices};
 use std::alloc::{AllocError, Global};
 use std::thread::Threads;
 
-/// What came of a group of parts: its bytes, and how many numbers it was.
+/// What came of a group of parts: its bytes, and how many numbers it was. That stops at the greatest
+/// `u64`, where no answer comes.
 #[derive(Drop)]
 pub(crate) struct Group {
     pub(crate) bytes: Vec<u8>,
@@ -23,6 +25,29 @@ pub(crate) fn edge(first: usize, number: usize, size: usize, parts: usize) -> us
     ensures { result ≡ group_edge first number size parts }
 {
     number.saturating_mul(size).saturating_add(first).min(parts)
+}
+
+/// What comes of the parts from one up to before another: each is spelled as soon as it is sorted.
+fn group_of(
+    alloc: Global,
+    wanted: Wanted,
+    cut: &CutLists,
+    from: usize,
+    to: usize,
+) -> Result<Group, AllocError>
+    requires order { from ≤ to }
+    requires inside { to < length cut.now.borders.values.items }
+    ensures { (lists : List (List ℕ)) → AreLists cut.now lists →
+        IfOk result (IsGroup wanted cut.now.borders.values.items from to lists) }
+{
+    let mut bytes = Vec::new(alloc);
+    let mut count = 0u64;
+    for part in from..to {
+        let numbers = of_part(alloc, wanted.how, cut, part)?;
+        spell(&mut bytes, wanted.form, &numbers)?;
+        count = count.saturating_add(numbers.len() as u64);
+    }
+    Ok(Group { bytes, count })
 }
 
 /// What one worker makes of one group, of those of so many parts from the first part on.
@@ -40,17 +65,12 @@ fn group_at(
     let parts = cut.parts();
     let from = edge(first, number, size, parts);
     let to = edge(first, number + 1, size, parts);
-    let numbers = of_parts(alloc, wanted.how, cut, from, to)?;
-    let bytes = spell(alloc, wanted.form, &numbers)?;
-    Ok(Group {
-        bytes,
-        count: numbers.len() as u64,
-    })
+    group_of(alloc, wanted, cut, from, to)
 }
 
 /// What the workers make of as many groups of so many parts, from the first part on. Where no
 /// thread can be started the caller does its work.
-pub(crate) fn groups<T: Threads + Sync>(
+fn groups<T: Threads + Sync>(
     team: &Team<'_, T>,
     wanted: Wanted,
     cut: &CutLists,
@@ -71,8 +91,24 @@ pub(crate) fn groups<T: Threads + Sync>(
     )
 }
 
-/// All groups, where memory sufficed for each.
-pub(crate) fn all_done(
+/// A round: these groups, where memory sufficed for each.
+pub(crate) fn round<T: Threads + Sync>(
+    team: &Team<'_, T>,
+    wanted: Wanted,
+    cut: &CutLists,
+    first: usize,
+    size: usize,
+) -> Result<Vec<Group>, AllocError>
+    requires { first < length cut.now.borders.values.items }
+    ensures { IfOk result (λ v. IsRound wanted cut.now first
+        (group_edge first team.now.workers.count size (parts_of cut.now)) v.items) }
+{
+    let tried = groups(team, wanted, cut, first, size)?;
+    all_done(team.alloc, tried)
+}
+
+/// The groups, where memory sufficed for each.
+fn all_done(
     alloc: Global,
     tried: Vec<Result<Group, AllocError>>,
 ) -> Result<Vec<Group>, AllocError>

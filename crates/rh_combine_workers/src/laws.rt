@@ -3,7 +3,7 @@
 ghost use Rattle.std.specs.Prelude.{◌≡◌, ℕ, List, ◌++◌, Ok, Some};
 ghost use Rattle.rh_combine.specs.declared.how.How.{How as Made};
 ghost use Rattle.rh_combine_workers.specs.Written.{IsWritten};
-ghost use Rattle.rh_combine_workers.specs.declared.form.Form.{Form as Shape};
+ghost use Rattle.rh_combine.specs.declared.wanted.Form.{Form as Shape};
 
 /// Two runs over the same lists that end well wrote the same text and counted as many numbers,
 /// whatever numbers of workers they had, however the lists were cut into pieces, and whatever was

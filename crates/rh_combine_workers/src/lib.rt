@@ -4,7 +4,6 @@
 //! `rh_list_commands` stands on it.
 //!
 //! ```text
-//! combine(&team, How::Intersect, lists)?
 //! write_combined(&team, wanted, lists, &mut writer, &mut progress)?
 //! ```
 //!
@@ -14,11 +13,10 @@
 //!
 //! Proved:
 //!
-//! - `combine`: the rising list of what the lists mean (`rh_combine`). The number of workers and
-//!   the pieces stand nowhere in it.
-//! - `write_combined`: its numbers were written in their form, or, on a fault, a front of them. It
-//!   answers how many they are. `Write` comes only where the writer's count of failures rose, and
-//!   else that did not rise.
+//! - `write_combined`: the rising list of what the lists mean (`rh_combine`) was written in its
+//!   form, or, on a fault, a front of it. The number of workers and the pieces stand nowhere in it.
+//!   It answers how many numbers they are. `Write` comes only where the writer's count of failures
+//!   rose, and else that did not rise.
 //! - `workers_agree`: two such runs that end well wrote the same.
 #![tactic(auto)]
 
@@ -26,15 +24,10 @@ mod fault;
 mod form;
 mod group;
 mod laws;
-mod numbers;
 mod part;
-mod wanted;
 mod writing;
 
 pub use fault::CombineFault;
-pub use form::Form;
 pub use laws::workers_agree;
-pub use numbers::combine;
-pub use rh_combine::How;
-pub use wanted::Wanted;
+pub use rh_combine::{Form, How, Wanted};
 pub use writing::write_combined;

@@ -1,6 +1,6 @@
-//! What comes of the keys of one part, and of consecutive parts, worked out by one worker.
+//! What comes of the keys of one part, worked out by one worker.
 
-ghost use Rattle.std.specs.Prelude.{◌≡◌, ℕ, List, ◌+◌, ◌<◌, ◌≤◌, All, IfOk, length, map};
+ghost use Rattle.std.specs.Prelude.{◌≡◌, ℕ, List, ◌+◌, ◌<◌, All, IfOk, length, map};
 ghost use Rattle.rh_combine.specs.Combine.{answer};
 ghost use Rattle.rh_borders.specs.Borders.{between, part_of};
 ghost use Rattle.rh_borders.specs.Cut.{AreLists};
@@ -61,7 +61,12 @@ fn slices_of(alloc: Global, lists: &[Vec<u64>]) -> Result<Vec<&[u64]>, AllocErro
 }
 
 /// What comes of the keys of a part.
-fn of_part(alloc: Global, how: How, cut: &CutLists, part: usize) -> Result<Vec<u64>, AllocError>
+pub(crate) fn of_part(
+    alloc: Global,
+    how: How,
+    cut: &CutLists,
+    part: usize,
+) -> Result<Vec<u64>, AllocError>
     requires { part + 1 < length cut.now.borders.values.items }
     ensures { (lists : List (List ℕ)) → AreLists cut.now lists →
         IfOk result (λ v. v.items
@@ -70,27 +75,5 @@ fn of_part(alloc: Global, how: How, cut: &CutLists, part: usize) -> Result<Vec<u
     let mine = all_gathered(alloc, &cut.lists, part)?;
     let slices = slices_of(alloc, &mine)?;
     let found = combine(alloc, how, &slices)?;
-    Ok(found)
-}
-
-/// What comes of the keys of the parts from one up to before another.
-pub(crate) fn of_parts(
-    alloc: Global,
-    how: How,
-    cut: &CutLists,
-    from: usize,
-    to: usize,
-) -> Result<Vec<u64>, AllocError>
-    requires order { from ≤ to }
-    requires inside { to < length cut.now.borders.values.items }
-    ensures { (lists : List (List ℕ)) → AreLists cut.now lists →
-        IfOk result (λ v. v.items
-        ≡ between cut.now.borders.values.items from to (answer how lists)) }
-{
-    let mut found = Vec::new(alloc);
-    for part in from..to {
-        let mut more = of_part(alloc, how, cut, part)?;
-        found.append(&mut more)?;
-    }
     Ok(found)
 }

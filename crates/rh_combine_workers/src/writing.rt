@@ -1,21 +1,23 @@
 //! What comes of lists is written, round by round.
 
-ghost use Rattle.std.specs.Prelude.{◌≡◌, ◌<◌, false, length, map};
+ghost use Rattle.std.specs.Thread.{IsSync};
+ghost use Rattle.std.specs.Prelude.{◌≡◌, ◌<◌, IfOk, false, length, map};
 ghost use Rattle.std.specs.List.{flat_map};
 ghost use Rattle.rh_bytes.specs.Counting.{Emits};
 ghost use Rattle.rh_pieces.specs.Pieces.{keys_in};
-ghost use Rattle.rh_combine_workers.specs.Groups.{group_edge, parts_of};
+ghost use Rattle.rh_combine_workers.specs.Groups.{IsRound, group_edge, parts_of};
 ghost use Rattle.rh_combine_workers.specs.Written.{WritesCombined, WritesParts};
 
 use crate::fault::CombineFault;
-use crate::group::{Group, all_done, count_of, edge, groups};
-use crate::wanted::Wanted;
+use crate::group::{Group, count_of, edge, round};
 use rh_borders::{CutLists, cut_lists};
 use rh_bytes::{Counted, Progress, WriteFault, write_text};
+use rh_combine::Wanted;
 use rh_forks::{Team, Workers};
 use rh_pieces::KeyList;
+use std::alloc::AllocError;
 use std::io::Write;
-use std::thread::Threads;
+use std::thread::{Threads, join_mut};
 
 /// About how many keys a group of parts has, so that a round takes little memory beside the lists.
 const IN_A_GROUP: usize = 1 << 18;
@@ -47,30 +49,50 @@ fn write_groups<W: Write, P: Progress>(
     Ok(())
 }
 
-/// One round: a group by each worker, from the first part on, written in order. It answers how many
-/// numbers that was.
-fn round<T: Threads + Sync, W: Write, P: Progress>(
+/// Writes the groups of a round, while the workers make those of the next one, which begins with this
+/// part; one worker makes them behind the writing. Behind the last round there are none.
+fn write_beside<T: Threads + Sync, W: Write, P: Progress>(
     team: &Team<'_, T>,
     wanted: Wanted,
     cut: &CutLists,
-    first: usize,
+    next: usize,
     size: usize,
+    done: &[Group],
     writer: &mut Counted<W>,
-    progress: &mut P,
-) -> Result<u64, CombineFault>
-    requires { first < length cut.now.borders.values.items }
-    ensures { WritesParts W.contents wanted cut.now first
-        (group_edge first team.now.workers.count size (parts_of cut.now)) writer.old writer.new
-        result }
+    progress: &P,
+) -> (Result<Vec<Group>, AllocError>, Result<(), WriteFault>)
+    requires next { next < length cut.now.borders.values.items }
+    requires away { P.stands progress.now ≡ false }
+    ensures next { IfOk result.0 (λ v. IsRound wanted cut.now next
+        (group_edge next team.now.workers.count size (parts_of cut.now)) v.items) }
+    ensures written { Emits W.contents writer.old writer.new
+        (flat_map (λ g. g.bytes.items) done.now) result.1 }
 {
-    let tried = groups(team, wanted, cut, first, size)?;
-    let done = all_done(team.alloc, tried)?;
-    progress.clear();
-    write_groups(&done, writer, progress)?;
-    Ok(count_of(&done))
+    let Team { rt, alloc, workers } = *team;
+    if next == cut.parts() {
+        let written = write_groups(done, writer, progress);
+        return (Ok(Vec::new(alloc)), written);
+    }
+    if workers.count == 1 {
+        let written = write_groups(done, writer, progress);
+        return (round(team, wanted, cut, next, size), written);
+    }
+    join_mut(
+        rt,
+        &mut || -> Result<Vec<Group>, AllocError>
+            requires { IsSync T.row × (next < length cut.now.borders.values.items) }
+            ensures { IfOk result (λ v. IsRound wanted cut.entry.now next
+                (group_edge next workers.count size (parts_of cut.entry.now)) v.items) }
+        { round(&Team { rt, alloc, workers }, wanted, cut, next, size) },
+        &mut || -> Result<(), WriteFault>
+            requires { P.stands progress.now ≡ false }
+            ensures { Emits W.contents writer.entry.now writer.exit.now
+                (flat_map (λ g. g.bytes.items) done.entry.now) result }
+        { write_groups(done, writer, progress) },
+    )
 }
 
-/// All rounds.
+/// All rounds: each is written in its order, beside the work on the next.
 fn write_rounds<T: Threads + Sync, W: Write, P: Progress>(
     team: &Team<'_, T>,
     wanted: Wanted,
@@ -83,12 +105,18 @@ fn write_rounds<T: Threads + Sync, W: Write, P: Progress>(
 {
     let parts = cut.parts();
     let size = group_size(cut.keys, parts, team.workers);
+    let mut done = round(team, wanted, cut, 0, size)?;
     let mut first = 0;
     let mut count = 0u64;
     while first < parts {
-        let more = round(team, wanted, cut, first, size, writer, progress)?;
-        count = count.saturating_add(more);
-        first = edge(first, team.workers.count, size, parts);
+        let next = edge(first, team.workers.count, size, parts);
+        progress.clear();
+        let (made, written) =
+            write_beside(team, wanted, cut, next, size, &done, writer, progress);
+        written?;
+        count = count.saturating_add(count_of(&done));
+        done = made?;
+        first = next;
         progress.done(first, parts);
     }
     Ok(count)

@@ -6,7 +6,7 @@ use Rattle.clap.specs.Simple.{built, subcommand_of}
 use Rattle.rh_key_commands.specs.Line.{IsCommand, rhkeys_app}
 use Rattle.rh_arguments.specs.Words.{Finds}
 use Rattle.rh_arguments.proofs.CommandLemmas.{EachMeets, help_alone, words_find}
-use Rattle.rh_key_commands.specs.declared.asked.Combination.TheVariants.{Intersect, Union, Subtract, Xor}
+use Rattle.rh_combine.specs.declared.how.How.TheVariants.{Intersect, Union, Subtract, Xor}
 use Rattle.rh_key_commands.proofs.ListsLemmas.{list_arguments}
 
 each_command : (word : Text) (rest : List Text) → (word ≡ codes "help" → ⊥) → EachMeets IsCommand word rest (built rhkeys_app).subs

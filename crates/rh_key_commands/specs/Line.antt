@@ -1,11 +1,13 @@
 -- The command line of rhkeys: the commands as clap reads them, and what a line says of the words.
-use Rattle.std.specs.Prelude.{◌≡◌, ◌↔◌, IsTrue, List, Option, Some, None, true, codes}
+use Rattle.std.specs.Prelude.{◌≡◌, ◌↔◌, Bool, IsTrue, List, Option, Some, None, true, false, codes}
 use Rattle.clap.specs.Walk.{Row, Rule, Text}
 use Rattle.clap.specs.Simple.{App, new_app, new_rule, with_rule, with_subcommand}
 use Rattle.clap.specs.declared.builder.action.ArgAction.TheVariants.{Append}
 use Rattle.rh_key_commands.specs.declared.asked.Line.{Line}
-use Rattle.rh_key_commands.specs.declared.asked.Combination.{Combination}
-use Rattle.rh_key_commands.specs.declared.asked.Combination.TheVariants.{Intersect, Union, Subtract, Xor}
+use Rattle.rh_combine.specs.declared.how.How.{How}
+use Rattle.rh_combine.specs.declared.how.How.TheVariants.{Intersect, Union, Subtract, Xor}
+use Rattle.rh_combine.specs.declared.wanted.Form.{Form}
+use Rattle.rh_combine.specs.declared.wanted.Form.TheVariants.{Lines, Count, Packed}
 use Rattle.rh_key_commands.specs.declared.limits.TheConstants.{MAX_WORKERS}
 use Rattle.rh_arguments.specs.Flags.{IsGiven, flag_rule}
 use Rattle.rh_arguments.specs.Skip.{GivesSkip, HasSkip, skip_rule}
@@ -14,7 +16,7 @@ use Rattle.rh_arguments.specs.Words.{GivesAll, GivesNumber, HasNumber, number_ru
 -- ---- the commands
 
 -- the command's name
-abbrev pub name_of : Combination → Text
+abbrev pub name_of : How → Text
 name_of Intersect = codes "intersect"
 name_of Union = codes "union"
 name_of Subtract = codes "subtract"
@@ -44,15 +46,27 @@ HasArguments rows = HasNumber (codes "workers") 0 MAX_WORKERS rows × HasSkip ro
 
 -- the name of a command, with what it needs
 abbrev pub IsCommand : Text → List Row → Type 0
-IsCommand name rows = (how : Combination) × (name ≡ name_of how) × HasArguments rows
+IsCommand name rows = (how : How) × (name ≡ name_of how) × HasArguments rows
 
 -- ---- what a line says
+
+-- what is written: with no flag the numbers, with one their count or a key file of them, and with both it is refused
+abbrev pub form_asked : (count packed : Bool) → Option Form
+form_asked true true = None
+form_asked true false = Some Count
+form_asked false true = Some Packed
+form_asked false false = Some Lines
+
+-- the flags that were found ask for that
+abbrev pub AsksForm : List Row → Option Form → Type 0
+AsksForm rows form =
+    (count : Bool) × (packed : Bool) × (IsTrue count ↔ IsGiven (codes "count") rows) × (IsTrue packed ↔ IsGiven (codes "packed") rows)
+    × (form ≡ form_asked count packed)
 
 -- the line is the command, with what was found for it
 abbrev pub Says : Text → List Row → Line → Type 0
 Says name rows line =
-    (name ≡ name_of line.combination) × GivesNumber (codes "workers") 0 MAX_WORKERS rows line.workers
-    × (IsTrue line.count ↔ IsGiven (codes "count") rows) × (IsTrue line.packed ↔ IsGiven (codes "packed") rows)
+    (name ≡ name_of line.how) × AsksForm rows line.form × GivesNumber (codes "workers") 0 MAX_WORKERS rows line.workers
     × GivesSkip rows line.skip × GivesAll (codes "file") rows line.files.items
 
 -- a command was found, and the line is that

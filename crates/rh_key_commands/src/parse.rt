@@ -5,10 +5,11 @@ ghost use Rattle.clap.specs.Words.{app_of, fault_of, found_of, rows_of};
 ghost use Rattle.clap.specs.Words.{subcommand_of, subcommand_rows_of};
 ghost use Rattle.rh_arguments.specs.Faults.{IsOneOf};
 ghost use Rattle.rh_arguments.specs.Words.{Finds, IsArg, texts_of};
-ghost use Rattle.rh_key_commands.specs.Line.{Asks, HasArguments, IsCommand, Says, lists_app};
-ghost use Rattle.rh_key_commands.specs.Line.{lists_rule, name_of, rhkeys_app, unskipped_app};
+ghost use Rattle.rh_key_commands.specs.Line.{Asks, HasArguments, IsCommand, Says, form_asked};
+ghost use Rattle.rh_key_commands.specs.Line.{lists_app, lists_rule, name_of, rhkeys_app};
+ghost use Rattle.rh_key_commands.specs.Line.{unskipped_app};
 
-use crate::asked::{Combination, Line};
+use crate::asked::Line;
 use crate::help::{self, Texts};
 use crate::limits::MAX_WORKERS;
 use clap::{Arg, ArgAction, ArgMatches, Command};
@@ -18,6 +19,7 @@ use rh_arguments::parsing::{
     describe, find_arguments, number, number_arg, program_command, texts, with_subcommand,
 };
 use rh_arguments::skip::{skip_arg, skip_asked};
+use rh_combine::{Form, How};
 use std::alloc::{AllocError, Global};
 
 /// The program's name.
@@ -41,35 +43,45 @@ fn line_in(alloc: Global, matches: &ArgMatches<'_>) -> Result<Line, AllocError>
     ensures { IfOk result (λ l. Asks (subcommand_rows_of matches.now) l) }
 {
     match matches.subcommand() {
-        Some(("intersect", given)) => lists_asked(alloc, Combination::Intersect, given),
-        Some(("union", given)) => lists_asked(alloc, Combination::Union, given),
-        Some(("subtract", given)) => lists_asked(alloc, Combination::Subtract, given),
-        Some(("xor", given)) => lists_asked(alloc, Combination::Xor, given),
+        Some(("intersect", given)) => lists_asked(alloc, How::Intersect, given),
+        Some(("union", given)) => lists_asked(alloc, How::Union, given),
+        Some(("subtract", given)) => lists_asked(alloc, How::Subtract, given),
+        Some(("xor", given)) => lists_asked(alloc, How::Xor, given),
         _ => unreachable!(),
     }
 }
 
 fn lists_asked(
     alloc: Global,
-    combination: Combination,
+    how: How,
     given: &ArgMatches<'_>,
 ) -> Result<Line, AllocError>
     requires { HasArguments (rows_of (found_of given.now)) }
-    ensures { IfOk result (λ l. Says (name_of combination) (rows_of (found_of given.now)) l) }
+    ensures { IfOk result (λ l. Says (name_of how) (rows_of (found_of given.now)) l) }
 {
+    let form = form_of(is_given(given, "count"), is_given(given, "packed"));
     let workers = number(given, "workers", 0, MAX_WORKERS);
-    let count = is_given(given, "count");
-    let packed = is_given(given, "packed");
     let skip = skip_asked(given);
     let files = texts(alloc, given, "file")?;
     Ok(Line {
-        combination,
+        how,
+        form,
         workers,
-        count,
-        packed,
         skip,
         files,
     })
+}
+
+/// What is written, by the flags that are given.
+fn form_of(count: bool, packed: bool) -> Option<Form>
+    ensures { result ≡ form_asked count packed }
+{
+    match (count, packed) {
+        (true, true) => None,
+        (true, false) => Some(Form::Count),
+        (false, true) => Some(Form::Packed),
+        (false, false) => Some(Form::Lines),
+    }
 }
 
 fn command<'a>(alloc: Global) -> Result<Command<'a>, AllocError>

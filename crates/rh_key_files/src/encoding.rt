@@ -1,6 +1,6 @@
 //! Key files, written.
 
-ghost use Rattle.std.specs.Prelude.{◌≤◌, All, length};
+ghost use Rattle.std.specs.Prelude.{◌≡◌, ◌≤◌, ◌++◌, All, OnOk, length};
 ghost use Rattle.rh_layout.specs.Key.{IsKey};
 ghost use Rattle.rh_bytes.specs.Counting.{Emits};
 ghost use Rattle.rh_key_files.specs.KeyFile.{header, spelled_keys, spelling};
@@ -10,6 +10,7 @@ ghost use Rattle.rh_key_files.specs.declared.version.Version.TheVariants.{Second
 use crate::version::Version;
 use byteorder::{BigEndian, ByteOrder};
 use rh_bytes::{Counted, WriteFault, write_text, write_texts};
+use std::alloc::AllocError;
 use std::io::Write;
 
 /// Writes the keys as a key file of the second version, in their order. `read_keys` takes it back
@@ -41,6 +42,19 @@ fn put_keys<W: Write>(keys: &[u64], writer: &mut Counted<W>) -> Result<(), Write
         let mut eight = [0; 8];
         BigEndian::write_u64(&mut eight, *key);
         write_text(writer, &eight)?;
+    }
+    Ok(())
+}
+
+/// The same into memory: it puts the keys behind the bytes, eight bytes each, as a key file has them
+/// behind its header.
+pub fn append_keys(bytes: &mut Vec<u8>, keys: &[u64]) -> Result<(), AllocError>
+    ensures { OnOk result (bytes.new.items ≡ bytes.old.items ++ spelled_keys keys.now) }
+{
+    for key in keys {
+        let mut eight = [0; 8];
+        BigEndian::write_u64(&mut eight, *key);
+        bytes.extend_from_slice(&eight)?;
     }
     Ok(())
 }

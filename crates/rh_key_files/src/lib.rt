@@ -54,7 +54,7 @@ mod stream;
 mod version;
 
 pub use batch::PART_KEYS;
-pub use encoding::{write_header, write_keys};
+pub use encoding::{append_keys, write_header, write_keys};
 pub use fault::KeyFault;
 pub use held_keys::HeldKeys;
 pub use keys::read_keys;

@@ -7,10 +7,10 @@ use Rattle.rh_key_files.specs.declared.fault.KeyFault.TheVariants as keys
 use Rattle.rh_numbers.specs.declared.fault.TextFault.TheVariants as text
 use Rattle.rh_shelf.specs.declared.shelf.ShelfFault.TheVariants as shelf
 use Rattle.rh_lists.specs.declared.fault.ListFault.TheVariants as of_list
-use Rattle.rh_list_files.specs.declared.fault.CommandFault.{CommandFault}
-use Rattle.rh_list_files.specs.declared.fault.CommandFault.TheVariants as command
-use Rattle.rh_list_files.specs.declared.fault.FileFault.{FileFault as CombinedFault}
-use Rattle.rh_list_files.specs.declared.fault.FileFault.TheVariants as combined
+use Rattle.rh_lists.specs.declared.fault.CommandFault.{CommandFault}
+use Rattle.rh_lists.specs.declared.fault.CommandFault.TheVariants as command
+use Rattle.rh_lists.specs.declared.fault.FileFault.{FileFault as CombinedFault}
+use Rattle.rh_lists.specs.declared.fault.FileFault.TheVariants as combined
 use Rattle.rh_keys_program.specs.declared.fault.Fault.{Fault}
 use Rattle.rh_keys_program.specs.declared.fault.Fault.TheVariants as fault
 use Rattle.rh_keys_program.specs.declared.fault.Found.{Found}

@@ -11,7 +11,7 @@ use crate::fault::{Fault, Found, InputFault, Place, Reason};
 use rh_bytes::{Counted, Filled, fill_front};
 use rh_cli::{ProgramFault, STANDARD_INPUT, size_of};
 use rh_key_files::KeyFault;
-use rh_list_files::INPUT;
+use rh_lists::INPUT;
 use rh_numbers::{TextFault, line_at};
 use rh_shelf::ShelfFault;
 use std::fs::{self, Files, Metadata};
@@ -23,7 +23,7 @@ const HEAD_BYTES: usize = 4;
 
 impl Place {
     ghost use Rattle.std.specs.Prelude.{◌≡◌, [], ◌∷◌, ◌⊎◌, Some, None, map, string_bytes, unwrap_or};
-    ghost use Rattle.rh_list_files.specs.declared.reading.TheConstants.{INPUT};
+    ghost use Rattle.rh_lists.specs.declared.paths.TheConstants.{INPUT};
     ghost use Rattle.rh_keys_program.specs.Told.{path_of};
 
     /// The one file that is named, or standard input where none is.

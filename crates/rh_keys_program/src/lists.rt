@@ -2,16 +2,15 @@
 
 ghost use Rattle.std.specs.Prelude.{◌≡◌, ◌<◌, ◌≤◌, map, min, string_bytes, vec_len};
 ghost use Rattle.std.specs.List.{count_by};
-ghost use Rattle.rh_list_files.specs.Lists.{is_input};
-ghost use Rattle.rh_list_files.specs.Reading.{IsInside};
+ghost use Rattle.rh_lists.specs.Files.{is_input};
+ghost use Rattle.rh_lists.specs.Paths.{IsInside};
 ghost use Rattle.rh_keys_program.specs.Told.{TellsCommand, TellsList, path_of};
 
 use crate::fault::{Fault, InputFault, Place};
 use crate::inputs::told_of_input;
 use rh_cli::{ProgramFault, STANDARD_INPUT, size_of};
 use rh_key_commands::MAX_WORKERS;
-use rh_list_files::{CommandFault, FileFault, INPUT};
-use rh_lists::ListFault;
+use rh_lists::{CommandFault, FileFault, INPUT, ListFault};
 use std::fs::Files;
 use std::thread::{self, Threads};
 

@@ -8,16 +8,15 @@ ghost use Rattle.rh_key_files.specs.declared.version.Version.TheVariants.{Second
 ghost use Rattle.rh_pieces.specs.Pieces.{keys_in};
 ghost use Rattle.rh_numbers.specs.Writing.{number_line, text_of};
 ghost use Rattle.rh_list_commands.specs.Commands.{EndsCommand, WritesText, written};
-ghost use Rattle.rh_list_files.specs.Lists.{seen};
-ghost use Rattle.rh_list_files.specs.Reading.{IsInside};
+ghost use Rattle.rh_lists.specs.Files.{seen};
+ghost use Rattle.rh_lists.specs.Paths.{IsInside};
 
-use crate::output::Output;
 use rh_bytes::{Counted, Progress, WriteFault, write_text};
-use rh_combine::How;
-use rh_combine_workers::{CombineFault, Form, Wanted, write_combined};
+use rh_combine::{Form, How, Wanted};
+use rh_combine_workers::{CombineFault, write_combined};
 use rh_forks::Team;
 use rh_key_files::write_header;
-use rh_list_files::{CommandFault, read_paths};
+use rh_lists::{CommandFault, read_paths};
 use rh_numbers::write_numbers;
 use rh_pieces::KeyList;
 use rh_shelf::Lender;
@@ -27,8 +26,7 @@ use std::thread::Threads;
 /// What is asked for.
 #[derive(Clone, Copy)]
 pub struct Job<'a> {
-    pub how: How,
-    pub output: Output,
+    pub wanted: Wanted,
     /// Where the lists are. `-` is standard input, which is read once: what another `-` finds is
     /// nothing.
     pub paths: &'a [String],
@@ -48,14 +46,14 @@ pub fn combine_files<T: Threads + Sync, S: Lender, I: Read, W: Write, P: Progres
     writer: &mut Counted<W>,
     progress: &mut P,
 ) -> Result<(), CommandFault>
-    ensures command { EndsCommand job.now.how job.now.output (map string_bytes job.now.paths.now)
+    ensures command { EndsCommand job.now.wanted (map string_bytes job.now.paths.now)
         (seen job.now.skip (S.state shelf.old)) (seen job.now.skip (S.state shelf.new))
         I.remaining input.old input.new
         W.contents writer.old writer.new result }
     ensures inside { IfErr result (IsInside (length job.now.paths.now)) }
 {
     let lists = read_paths(team, shelf, job.paths, job.skip, input, progress)?;
-    match write_lists(team, job, lists, writer, progress) {
+    match write_lists(team, job.wanted, lists, writer, progress) {
         Ok(()) => Ok(()),
         Err(CombineFault::Memory) => Err(CommandFault::Memory),
         Err(CombineFault::Write) => Err(CommandFault::Write),
@@ -65,20 +63,19 @@ pub fn combine_files<T: Threads + Sync, S: Lender, I: Read, W: Write, P: Progres
 /// Writes what comes of the lists.
 fn write_lists<T: Threads + Sync, W: Write, P: Progress>(
     team: &Team<'_, T>,
-    job: &Job<'_>,
+    wanted: Wanted,
     lists: Vec<KeyList>,
     writer: &mut Counted<W>,
     progress: &mut P,
 ) -> Result<(), CombineFault>
     ensures { WritesText W.contents
-        (written job.now.output (answer job.now.how (map keys_in lists.items)))
+        (written wanted.form (answer wanted.how (map keys_in lists.items)))
         writer.old writer.new result }
 {
-    let Job { how, output, .. } = *job;
-    match output {
-        Output::Lines => write_lines(team, how, lists, writer, progress),
-        Output::Count => write_counted(team, how, lists, writer, progress),
-        Output::Packed => write_packed(team, how, lists, writer, progress),
+    match wanted.form {
+        Form::Lines => write_lines(team, wanted.how, lists, writer, progress),
+        Form::Count => write_counted(team, wanted.how, lists, writer, progress),
+        Form::Packed => write_packed(team, wanted.how, lists, writer, progress),
     }
 }
 
@@ -151,7 +148,7 @@ fn write_packed<T: Threads + Sync, W: Write, P: Progress>(
 {
     let wanted = Wanted {
         how,
-        form: Form::Keys,
+        form: Form::Packed,
     };
     let mut held = Counted::new(Vec::new(team.alloc));
     let Ok(count) = write_combined(team, wanted, lists, &mut held, progress) else {

@@ -16,8 +16,6 @@
 
 mod combining;
 mod laws;
-mod output;
 
 pub use combining::{Job, combine_files};
 pub use laws::commands_agree;
-pub use output::Output;

@@ -5,6 +5,7 @@
 -- Told: what the first four bytes tell of a list.
 -- Skips: what a reader that skips lines gives.
 -- Agreeing: two readings of the same bytes.
+-- Given: lists that are read, one after the other, and two readings of the same.
 
 pub mod Joining
 pub mod Ending
@@ -12,3 +13,4 @@ pub mod Texts
 pub mod Told
 pub mod Skips
 pub mod Agreeing
+pub mod Given

@@ -1,6 +1,7 @@
-//! Lists of keys of any length: texts of numbers and key files, read by several workers.
+//! Lists of keys of any length: texts of numbers and key files, read by several workers, from one
+//! reader or from the files and the input of a command.
 //!
-//! `rh_list_files` and `rh_borders` stand on it.
+//! `rh_checks`, `rh_list_commands`, `rh_keys_program` and `rh_pack_program` stand on it.
 //!
 //! ```text
 //! let mut blocks = Blocks::new(alloc);
@@ -23,6 +24,13 @@
 //! - `Skipping`: it gives the bytes of its reader with spaces in place of the first lines, so many as
 //!   are asked for, and of a key file all bytes.
 //! - `lists_agree`: what two readings of the same bytes answer is the same, but for these.
+//! - `read_paths`, for every shelf and reader whose bytes are known: where it answers `Ok`, the files
+//!   and the input were lists of exactly these numbers; of a file that is a text with `skip` blank
+//!   lines in place of its first ones. Else the fault is the first of the first list that has one, and
+//!   memory runs out only behind a list that was read. A list of a file with a fault takes nothing of
+//!   the input. A file is told as missing only where there is none, or the shelf failed; a failed read
+//!   of the input only where one failed, behind good lines and keys, and of a file only where the shelf
+//!   was shown one. Else it was shown none.
 //!
 //! Memory: 8 bytes for each key and 24 for each piece, of which a text has one for each worker and
 //! block; twice as much for the pieces that are being read; and two blocks of 16 MB at the most,
@@ -39,14 +47,16 @@ mod fault;
 mod laws;
 mod limits;
 mod part;
+mod paths;
 mod reading;
 mod skipping;
 mod text;
 mod workers;
 
 pub use blocks::Blocks;
-pub use fault::ListFault;
+pub use fault::{CommandFault, FileFault, ListFault};
 pub use laws::lists_agree;
 pub use limits::BLOCK_BYTES;
+pub use paths::{INPUT, read_paths};
 pub use reading::read_list;
 pub use skipping::Skipping;

@@ -55,4 +55,4 @@ pub use line_so_far::{BadLine, LineSoFar};
 pub use reading::Reading;
 pub use search::{behind_mark, line_at};
 pub use text::read_numbers;
-pub use writing::write_numbers;
+pub use writing::{append_numbers, write_numbers};

@@ -7,7 +7,7 @@ ghost use Rattle.rh_pack_program.specs.Places.{files_of, remaining_of};
 
 use rh_bytes::Progress;
 use rh_cli::Followed;
-use rh_list_files::INPUT;
+use rh_lists::INPUT;
 use rh_shelf::{FileShelf, Shelf, ShelfFault};
 use std::alloc::Global;
 use std::cell::RefCell;

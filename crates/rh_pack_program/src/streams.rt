@@ -8,7 +8,7 @@ ghost use Rattle.rh_key_texts.specs.Files.{ListsFiles};
 ghost use Rattle.rh_key_texts.specs.Pack.{Packs};
 ghost use Rattle.rh_keys_program.specs.Told.{path_of};
 ghost use Rattle.rh_pack_program.specs.Told.{EndsReading, TellsFile, TellsFileAt, TellsHeld};
-ghost use Rattle.rh_list_files.specs.declared.reading.TheConstants.{INPUT};
+ghost use Rattle.rh_lists.specs.declared.paths.TheConstants.{INPUT};
 ghost use Rattle.rh_pack_program.specs.Told.{TellsInput, TellsPack, of_program, paths_named};
 
 use crate::fault::Fault;
@@ -19,8 +19,7 @@ use rh_key_texts::{FaultAt, FileFault, Form, PackFault, list_files, pack};
 use rh_keys_program::{
     Fault as ListsFault, InputFault, Place, Reason, reason_unread, told_of_input,
 };
-use rh_list_files::INPUT;
-use rh_lists::Skipping;
+use rh_lists::{INPUT, Skipping};
 use rh_shelf::{CountedShelf, Lender, Shelf};
 use rh_snapshot::SnapFault;
 use std::alloc::{AllocError, Global};

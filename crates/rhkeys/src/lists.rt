@@ -2,16 +2,16 @@
 
 ghost use Rattle.std.specs.Prelude.{◌≡◌, ◌≢◌, ◌<◌, Err, None, false, map, string_bytes, vec_len};
 ghost use Rattle.std.specs.List.{count_by};
-ghost use Rattle.rh_list_files.specs.Lists.{is_input};
-ghost use Rattle.rhkeys.specs.Asked.{EndsLists, how_asked, output_asked, takes_one};
+ghost use Rattle.rh_lists.specs.Files.{is_input};
+ghost use Rattle.rhkeys.specs.Asked.{EndsLists, takes_one};
 
 use rh_bytes::{Counted, Progress};
 use rh_cli::Status;
-use rh_combine::How;
+use rh_combine::{How, Wanted};
 use rh_forks::{Team, Workers};
-use rh_key_commands::{Combination, Line};
+use rh_key_commands::Line;
 use rh_keys_program::{Fault, is_input_again, times_named, with_path, workers_of};
-use rh_list_commands::{Job, Output, combine_files};
+use rh_list_commands::{Job, combine_files};
 use rh_lists::Skipping;
 use rh_shelf::{CountedShelf, FileShelf};
 use std::fs::Files;
@@ -25,18 +25,17 @@ pub fn combine<W: Write + Drop, P: Progress>(
     asked: Line,
     progress: &mut P,
 ) -> Result<Status, Fault>
-    ensures outputs { output_asked asked.count asked.packed ≡ None → result ≡ Err Fault.TwoOutputs }
-    ensures one { output_asked asked.count asked.packed ≢ None →
-        vec_len asked.files ≡ 1 → takes_one asked.combination ≡ false →
+    ensures outputs { asked.form ≡ None → result ≡ Err Fault.TwoOutputs }
+    ensures one { asked.form ≢ None → vec_len asked.files ≡ 1 → takes_one asked.how ≡ false →
         result ≡ Err Fault.OneList }
-    ensures input { output_asked asked.count asked.packed ≢ None →
+    ensures input { asked.form ≢ None →
         1 < count_by is_input (map string_bytes asked.files.items) → result ≡ Err Fault.InputTwice }
     ensures ends { EndsLists (map string_bytes asked.files.items) result }
 {
-    let Some(output) = output_of(asked.count, asked.packed) else {
+    let Some(form) = asked.form else {
         return Err(Fault::TwoOutputs);
     };
-    if asked.files.len() == 1 && !takes_one(asked.combination) {
+    if asked.files.len() == 1 && !takes_one(asked.how) {
         return Err(Fault::OneList);
     }
     let named = times_named(&asked.files);
@@ -54,8 +53,10 @@ pub fn combine<W: Write + Drop, P: Progress>(
         workers: Workers { count },
     };
     let job = Job {
-        how: how_of(asked.combination),
-        output,
+        wanted: Wanted {
+            how: asked.how,
+            form,
+        },
         paths: &asked.files,
         skip,
     };
@@ -67,32 +68,8 @@ pub fn combine<W: Write + Drop, P: Progress>(
 }
 
 /// Whether the command says something of one list. For the others a FILE or a `-` was forgotten.
-fn takes_one(combination: Combination) -> bool
-    ensures { result ≡ takes_one combination }
+fn takes_one(how: How) -> bool
+    ensures { result ≡ takes_one how }
 {
-    matches!(combination, Combination::Union)
-}
-
-/// What the command makes of the lists.
-fn how_of(combination: Combination) -> How
-    ensures { result ≡ how_asked combination }
-{
-    match combination {
-        Combination::Intersect => How::Intersect,
-        Combination::Union => How::Union,
-        Combination::Subtract => How::Subtract,
-        Combination::Xor => How::Xor,
-    }
-}
-
-/// What it writes. Of the flags one at the most is taken.
-fn output_of(count: bool, packed: bool) -> Option<Output>
-    ensures { result ≡ output_asked count packed }
-{
-    match (count, packed) {
-        (true, true) => None,
-        (true, false) => Some(Output::Count),
-        (false, true) => Some(Output::Packed),
-        (false, false) => Some(Output::Lines),
-    }
+    matches!(how, How::Union)
 }

@@ -8,7 +8,7 @@ use Rattle.rh_keys_program.specs.declared.fault.Fault.{Fault}
 use Rattle.rh_keys_program.specs.declared.fault.Fault.TheVariants as fault
 use Rattle.rh_keys_program.specs.declared.fault.Place.{Place}
 use Rattle.rh_keys_program.specs.declared.fault.Place.TheVariants as place
-use Rattle.rh_list_files.specs.declared.fault.FileFault.{FileFault}
+use Rattle.rh_lists.specs.declared.fault.FileFault.{FileFault}
 
 -- what each line of a report begins by
 abbrev pub name_of : Place → List ℕ

@@ -2,7 +2,7 @@
 
 ghost use Rattle.std.specs.Prelude.{◌≡◌, ◌<◌, Err, IfErr, IfOk, map, string_bytes};
 ghost use Rattle.std.specs.List.{count_by};
-ghost use Rattle.rh_list_files.specs.Lists.{is_input};
+ghost use Rattle.rh_lists.specs.Files.{is_input};
 ghost use Rattle.rh_keys_program.specs.Told.{path_of};
 ghost use Rattle.rhpack.specs.Check.{EndsCheck, TellsPlace, name_of};
 
@@ -11,8 +11,7 @@ use rh_checks::{CheckFault, tell_list};
 use rh_cli::{ProgramFault, Status};
 use rh_forks::{Team, Workers};
 use rh_keys_program::{Fault, Place, is_input_again, tell, times_named, told_of_list, workers_of};
-use rh_list_files::FileFault;
-use rh_lists::Skipping;
+use rh_lists::{FileFault, Skipping};
 use rh_shelf::{FileShelf, Shelf};
 use std::alloc::{AllocError, Global};
 use std::fs::Files;

@@ -1,8 +1,8 @@
 use Rattle.std.proofs.Common.{◌≡◌, List, Some, option_map, arith}
 use Rattle.clap.specs.Words.{Row, Text}
 use Rattle.rh_key_commands.specs.Line.{IsCommand, name_of}
-use Rattle.rh_key_commands.specs.declared.asked.Combination.{Combination}
-use Rattle.rh_key_commands.specs.declared.asked.Combination.TheVariants.{Intersect, Union, Subtract, Xor}
+use Rattle.rh_combine.specs.declared.how.How.{How}
+use Rattle.rh_combine.specs.declared.how.How.TheVariants.{Intersect, Union, Subtract, Xor}
 use Rattle.rh_arguments.proofs.CommandLemmas.{name_found}
 use Rattle.rh_key_commands.proofs.parse.line_in.Goals as goal
 use Rattle.rh_key_commands.proofs.parse.line_in.Goals.{in_default-via-in-Some+in_default, in_default-via-in_default}
@@ -14,7 +14,7 @@ unreachable-requires c =
     name_found IsCommand c.args.matches.now _ c.subcommand.ensures.name c.requires in
     elim c.in_default.branch [
       | in_default-via-in-Some+in_default w ↦
-          let unnamed : (how : Combination) → named.0.0 ≡ name_of how → ⊥ =
+          let unnamed : (how : How) → named.0.0 ≡ name_of how → ⊥ =
           λ how. elim how [
             | Intersect ↦ λ is. grind (arith, named.1, is, w.in_default.is)
             | Union ↦ λ is. grind (arith, named.1, is, w.in_default.is)

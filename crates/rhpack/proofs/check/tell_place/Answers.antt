@@ -1,5 +1,5 @@
 use Rattle.std.proofs.Common.{inr}
-use Rattle.rh_list_files.specs.declared.fault.FileFault.TheVariants as file
+use Rattle.rh_lists.specs.declared.fault.FileFault.TheVariants as file
 use Rattle.rhpack.proofs.check.tell_place.Goals as goal
 
 pub returns-in-Err : goal.returns-in-Err
