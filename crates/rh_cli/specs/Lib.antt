@@ -2,8 +2,5 @@ pub mod Closed
 pub mod Endings
 pub mod Outlet
 pub mod Progress
-pub mod Shared
-pub mod ByLine
 pub mod Sizes
 pub mod Notes
-pub mod Quoted

@@ -1,27 +1,11 @@
 //! The files that a command line names.
 
-ghost use Rattle.std.specs.Prelude.{◌≡◌, ◌⊎◌, IfErr};
 ghost use Rattle.rh_cli.specs.Sizes.{IsSizeIn};
 
-use crate::status::ProgramFault;
 use std::fs::{self, Files, Metadata};
-use std::io::ErrorKind;
 
 /// Where the system has standard input.
 pub const STANDARD_INPUT: &str = "/dev/stdin";
-
-/// The file at the path, opened to be read.
-pub fn open<F: Files>(files: &F, path: &str) -> Result<F::File, ProgramFault>
-    ensures { IfErr result (λ f. (f ≡ ProgramFault.Memory) ⊎ (f ≡ ProgramFault.Open)) }
-{
-    match fs::open(files, path) {
-        Ok(file) => Ok(file),
-        Err(error) => Err(match error.kind() {
-            ErrorKind::OutOfMemory => ProgramFault::Memory,
-            _ => ProgramFault::Open,
-        }),
-    }
-}
 
 /// How many bytes stand at the path, where that is a file.
 pub fn size_of(files: &impl Files, path: &str) -> Option<u64> {

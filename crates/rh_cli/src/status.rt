@@ -1,7 +1,7 @@
 //! How a program ends.
 
 ghost use Rattle.std.specs.Prelude.{◌≡◌};
-ghost use Rattle.rh_cli.specs.Endings.{status_by, ending_by_program, number_of};
+ghost use Rattle.rh_cli.specs.Endings.{ending_by_program, number_of};
 
 use std::process::ExitCode;
 use thiserror::Error;
@@ -54,19 +54,5 @@ impl ProgramFault {
             ProgramFault::Memory => Status::Memory,
             ProgramFault::Write => Status::Write,
         }
-    }
-}
-
-/// How a command ends whose work came to the one, and the writing out of what it had left in a
-/// buffer to the other.
-pub(crate) fn status_of<E: Drop>(told: Result<(), E>, written: Result<(), E>) -> Result<Status, E>
-    ensures { result ≡ status_by told written }
-{
-    match told {
-        Ok(()) => match written {
-            Ok(()) => Ok(Status::Done),
-            Err(fault) => Err(fault),
-        },
-        Err(fault) => Err(fault),
     }
 }

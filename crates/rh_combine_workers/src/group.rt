@@ -108,10 +108,7 @@ pub(crate) fn round<T: Threads + Sync>(
 }
 
 /// The groups, where memory sufficed for each.
-fn all_done(
-    alloc: Global,
-    tried: Vec<Result<Group, AllocError>>,
-) -> Result<Vec<Group>, AllocError>
+fn all_done(alloc: Global, tried: Vec<Result<Group, AllocError>>) -> Result<Vec<Group>, AllocError>
     ensures { IfOk result (λ v. map Ok v.items ≡ tried.items) }
 {
     let mut groups = Vec::with_capacity(alloc, tried.len())?;

@@ -111,8 +111,7 @@ fn write_rounds<T: Threads + Sync, W: Write, P: Progress>(
     while first < parts {
         let next = edge(first, team.workers.count, size, parts);
         progress.clear();
-        let (made, written) =
-            write_beside(team, wanted, cut, next, size, &done, writer, progress);
+        let (made, written) = write_beside(team, wanted, cut, next, size, &done, writer, progress);
         written?;
         count = count.saturating_add(count_of(&done));
         done = made?;

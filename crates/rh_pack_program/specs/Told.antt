@@ -1,7 +1,7 @@
 -- What the program tells of a fault: of what was read, why, and how many parts would do.
 use Rattle.std.specs.Prelude.{◌≡◌, ◌⊎◌, ℕ, Bool, true, false, List, [], Option, Some, None, Result, Ok, Err, IfErr, if◌then◌else◌, nat_lt, option_map, slice_get}
 use Rattle.rh_bytes.specs.declared.fault.WriteFault.{WriteFault}
-use Rattle.rh_cli.specs.Endings.{EndsBy}
+use Rattle.rh_streams.specs.Finishing.{EndsBy}
 use Rattle.rh_cli.specs.declared.status.ProgramFault.{ProgramFault}
 use Rattle.rh_cli.specs.declared.status.ProgramFault.TheVariants as program
 use Rattle.rh_cli.specs.declared.status.Status.{Status}

@@ -6,9 +6,9 @@ ghost use Rattle.rh_shelf.specs.Kinds.{failed_files};
 ghost use Rattle.rh_pack_program.specs.Places.{files_of, remaining_of};
 
 use rh_bytes::Progress;
-use rh_cli::Followed;
 use rh_lists::INPUT;
 use rh_shelf::{FileShelf, Shelf, ShelfFault};
+use rh_streams::Followed;
 use std::alloc::Global;
 use std::cell::RefCell;
 use std::fs::Files;

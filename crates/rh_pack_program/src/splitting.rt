@@ -4,7 +4,7 @@ ghost use Rattle.std.specs.Prelude.{◌≡◌, ◌≤◌, ◌<◌, ⊤, IfErr, I
 ghost use Rattle.std.specs.Prelude.{length, true};
 ghost use Rattle.std.specs.Io.Buffered.{writer_contents};
 ghost use Rattle.rh_bytes.specs.Counting.{Writes};
-ghost use Rattle.rh_cli.specs.Endings.{EndsWith, told_as};
+ghost use Rattle.rh_streams.specs.Finishing.{EndsWith, told_as};
 ghost use Rattle.rh_parts.specs.declared.part.TheConstants.{MAX_PARTS};
 ghost use Rattle.rh_splitting.specs.Name.{is_name};
 ghost use Rattle.rh_splitting.specs.Plan.{plan_text};
@@ -17,7 +17,7 @@ use crate::fault::Fault;
 use crate::places::Places;
 use crate::streams::told_of_read;
 use rh_bytes::{Counted, Progress, WriteFault};
-use rh_cli::{Clearing, Outlet, ProgramFault, Status, buffered_writer, finish};
+use rh_cli::{Outlet, ProgramFault, Status};
 use rh_keys_program::{Fault as ListsFault, InputFault, Place};
 use rh_lists::Skipping;
 use rh_shelf::Shelf;
@@ -25,6 +25,7 @@ use rh_splitting::{
     FilesFault, Part, PartFiles, Source, SplitFault, counting_parts, parts_chosen, split_source,
     try_source, write_plan,
 };
+use rh_streams::{Clearing, buffered_writer, finish};
 use std::cell::RefCell;
 use std::fs::Files;
 use std::io::{BufWriter, Read, Write};

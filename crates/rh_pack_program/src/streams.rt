@@ -3,7 +3,7 @@
 ghost use Rattle.std.specs.Prelude.{◌≡◌, ◌<◌, ⊤, [], ◌∷◌, IfErr, IfOk, length, map, string_bytes};
 ghost use Rattle.std.specs.Io.Buffered.{writer_contents};
 ghost use Rattle.rh_bytes.specs.Counting.{inner_of};
-ghost use Rattle.rh_cli.specs.Endings.{EndsBy, EndsWith, ToldAs};
+ghost use Rattle.rh_streams.specs.Finishing.{EndsBy, EndsWith, ToldAs};
 ghost use Rattle.rh_key_texts.specs.Files.{ListsFiles};
 ghost use Rattle.rh_key_texts.specs.Pack.{Packs};
 ghost use Rattle.rh_keys_program.specs.Told.{path_of};
@@ -14,7 +14,7 @@ ghost use Rattle.rh_pack_program.specs.Told.{TellsInput, TellsPack, of_program, 
 use crate::fault::Fault;
 use crate::places::Places;
 use rh_bytes::{Counted, Progress};
-use rh_cli::{Clearing, Outlet, ProgramFault, Status, buffered_writer, finish};
+use rh_cli::{Outlet, ProgramFault, Status};
 use rh_key_texts::{FaultAt, FileFault, Form, PackFault, list_files, pack};
 use rh_keys_program::{
     Fault as ListsFault, InputFault, Place, Reason, reason_unread, told_of_input,
@@ -22,6 +22,7 @@ use rh_keys_program::{
 use rh_lists::{INPUT, Skipping};
 use rh_shelf::{CountedShelf, Lender, Shelf};
 use rh_snapshot::SnapFault;
+use rh_streams::{Clearing, buffered_writer, finish};
 use std::alloc::{AllocError, Global};
 use std::cell::RefCell;
 use std::fs::Files;

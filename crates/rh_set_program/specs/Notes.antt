@@ -1,7 +1,7 @@
 -- What a second line says, for a person.
 use Rattle.std.specs.Prelude.{◌≡◌, ◌≢◌, ◌⊎◌, ℕ, ◌-◌, List, ◌∷◌, drop, IsTrue, not, Option, None, Some, Result, Err, string_bytes}
 use Rattle.std.specs.List.{list_all, slice_get}
-use Rattle.rh_cli.specs.Quoted.{quoted}
+use Rattle.rh_streams.specs.Quoted.{quoted}
 use Rattle.rh_key_files.specs.declared.fault.KeyFault.TheVariants as keys
 use Rattle.rh_snapshot.specs.declared.fault.SnapFault.TheVariants as snap
 use Rattle.rh_lines.specs.Lines.{is_printable, lines_of, without_return, words_of}

@@ -2,9 +2,10 @@
 
 ghost use Rattle.rh_set_program.specs.Followed.{followed};
 
-use rh_cli::{Followed, ProgressLine, size_of};
+use rh_cli::{ProgressLine, size_of};
 use rh_script::{Command, Script, Step};
 use rh_shelf::{Shelf, ShelfFault};
+use rh_streams::Followed;
 use std::alloc::Global;
 use std::cell::RefCell;
 use std::fs::Files;

@@ -2,16 +2,16 @@
 
 ghost use Rattle.std.specs.Prelude.{◌≡◌, ◌≢◌, ◌-◌, None, Some, IfSome, IsTrue, MatchOption, not, string_bytes};
 ghost use Rattle.std.specs.List.{list_all, slice_get};
-ghost use Rattle.rh_cli.specs.Quoted.{quoted};
+ghost use Rattle.rh_streams.specs.Quoted.{quoted};
 ghost use Rattle.rh_lines.specs.Lines.{is_printable, lines_of};
 ghost use Rattle.rh_script.specs.Grammar.{verb_of};
 ghost use Rattle.rh_set_program.specs.Notes.{NotesCommand, NotesName, NotesScript};
 ghost use Rattle.rh_set_program.specs.Notes.{ShowsLine, ShowsWord};
 
 use crate::note::Note;
-use rh_cli::quoted;
 use rh_lines::{next_line, next_word, printable, without_return};
 use rh_script::{ScriptFault, ScriptFaultKind};
+use rh_streams::quoted;
 use std::alloc::Global;
 
 /// What is said of the fault of a text that is no script: the word and the rule, of a bad name and

@@ -4,12 +4,13 @@ ghost use Rattle.std.specs.Prelude.{IfSome};
 ghost use Rattle.rh_set_program.specs.Notes.{IsUnwritten};
 
 use crate::status::Fault;
-use rh_cli::{FileNote, ProgramFault, Status, note_on_file, note_on_output};
+use rh_cli::{ProgramFault, Status};
 use rh_commands::{CheckFault, DumpFault};
 use rh_key_files::KeyFault;
 use rh_layout::MAX_BITS;
 use rh_script_run::{Cause, RunFault};
 use rh_snapshot::SnapFault;
+use rh_streams::{FileNote, note_on_file, note_on_output};
 use std::alloc::Global;
 use std::fs::Files;
 use std::io::ErrorKind;

@@ -5,11 +5,12 @@ ghost use Rattle.rh_set_program.specs.Notes.{NotesRun};
 
 use crate::note::Note;
 use rh_bytes::{Counted, fill};
-use rh_cli::{Reason, note_on, note_on_file, reason_of};
+use rh_cli::{Reason, reason_of};
 use rh_key_files::KeyFault;
 use rh_script::{Command, Script};
 use rh_script_run::{Cause, RunFault, Wanted};
 use rh_snapshot::SnapFault;
+use rh_streams::{note_on, note_on_file};
 use std::alloc::Global;
 use std::fs::{self, Files};
 use std::io::ErrorKind;

@@ -2,8 +2,8 @@
 
 ghost use Rattle.std.specs.Prelude.{◌≡◌, ◌⊎◌, [], IfErr, IfOk, IfSome, None, Ok, OnOk, Some, take};
 ghost use Rattle.std.specs.Io.Buffered.{writer_buffer, writer_contents};
-ghost use Rattle.rh_cli.specs.ByLine.{lines_to};
-ghost use Rattle.rh_cli.specs.Endings.{Ends, EndsBy};
+ghost use Rattle.rh_streams.specs.ByLine.{lines_to};
+ghost use Rattle.rh_streams.specs.Finishing.{Ends, EndsBy};
 ghost use Rattle.rh_operations.specs.Leaves.{KeepsRunner};
 ghost use Rattle.rh_script.specs.Grammar.{script_of};
 ghost use Rattle.rh_script.specs.Script.{steps_of};
@@ -20,11 +20,12 @@ use crate::note::{Note, note_on_path};
 use crate::run_notes::note_on_run;
 use crate::status::{Fault, running};
 use rh_bytes::{Counted, fill};
-use rh_cli::{ByLine, Clearing, ProgramFault, ProgressLine, Status, buffered_writer, finish, open};
+use rh_cli::{ProgramFault, ProgressLine, Status};
 use rh_runner::Runner;
 use rh_script::{MAX_LINE_BYTES, MAX_LINES, Script, parse};
 use rh_script_run::{Wanted, run_noting};
 use rh_shelf::{CountedShelf, FileShelf, Lender};
+use rh_streams::{ByLine, Clearing, buffered_writer, finish, open};
 use std::alloc::Global;
 use std::cell::RefCell;
 use std::fs::Files;

@@ -3,16 +3,15 @@
 ghost use Rattle.std.specs.Prelude.{◌≡◌, ◌⊎◌, ⊤, Err};
 ghost use Rattle.std.specs.Io.Buffered.{writer_contents};
 ghost use Rattle.rh_bytes.specs.Counting.{inner_of};
-ghost use Rattle.rh_cli.specs.Endings.{EndsBy, EndsWith};
+ghost use Rattle.rh_streams.specs.Finishing.{EndsBy, EndsWith};
 ghost use Rattle.rh_commands.specs.Check.{Checks};
 ghost use Rattle.rh_commands.specs.Dump.{Dumps};
 
 use crate::status::{Fault, checking, dumping};
 use rh_bytes::{Counted, Progress};
-use rh_cli::{
-    Clearing, Followed, ProgramFault, Status, buffered_reader, buffered_writer, finish, open,
-};
+use rh_cli::{ProgramFault, Status};
 use rh_commands::{check_snapshot, dump_keys};
+use rh_streams::{Clearing, Followed, buffered_reader, buffered_writer, finish, open};
 use std::alloc::Global;
 use std::cell::RefCell;
 use std::fs::Files;

@@ -1,6 +1,6 @@
 //! Where the files of a script stand: in memory (`MemShelf`), or real ones (`FileShelf`).
 //!
-//! `rh_operations`, `rh_set_program`, `rh_splitting`, `rh_key_texts`, `rh_list_files` and
+//! `rh_operations`, `rh_set_program`, `rh_splitting`, `rh_key_texts`, `rh_lists` and
 //! `rh_keys_program` stand on it.
 //!
 //! Proved:

@@ -10,9 +10,10 @@ mod streams;
 
 use note::{note_on_play, note_on_unwritten};
 use rh_arguments::{LineFault, name_called};
-use rh_cli::{FileNote, Outlet, ProgramFault, Status, answer, hold_closed, tell_note, words};
+use rh_cli::{Outlet, ProgramFault, Status, answer, hold_closed, words};
 use rh_play_commands::{Line, NAME, line};
 use rh_play_run::Telling;
+use rh_streams::{FileNote, tell_note};
 use status::Fault;
 use std::env::Env;
 use std::fs::Files;

@@ -4,8 +4,9 @@ ghost use Rattle.std.specs.Prelude.{◌≡◌, IfSome, string_bytes};
 ghost use Rattle.rhplay.specs.Endings.{IsUnwritten, NotesFile};
 
 use crate::status::Fault;
-use rh_cli::{FileNote, ProgramFault, Status, note_on_file, note_on_output};
+use rh_cli::{ProgramFault, Status};
 use rh_play_run::{DrawFault, PlayRunFault, TellFault};
+use rh_streams::{FileNote, note_on_file, note_on_output};
 use std::alloc::Global;
 use std::fs::Files;
 use std::io::ErrorKind;

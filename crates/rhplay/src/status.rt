@@ -1,7 +1,7 @@
 //! How the program ends.
 
 ghost use Rattle.std.specs.Prelude.{◌≡◌};
-ghost use Rattle.rh_cli.specs.Endings.{told_as};
+ghost use Rattle.rh_streams.specs.Finishing.{told_as};
 ghost use Rattle.rhplay.specs.Endings.{ending_by, ending_by_play};
 
 use rh_cli::{ProgramFault, Status};

@@ -3,7 +3,7 @@
 ghost use Rattle.std.specs.Prelude.{◌≡◌, ◌⊎◌, ⊤, ◌≤◌, Err, IfErr, IfSome};
 ghost use Rattle.std.specs.Io.Buffered.{writer_contents};
 ghost use Rattle.rh_bytes.specs.Counting.{inner_of};
-ghost use Rattle.rh_cli.specs.Endings.{EndsBy, EndsWith};
+ghost use Rattle.rh_streams.specs.Finishing.{EndsBy, EndsWith};
 ghost use Rattle.rh_draw.specs.declared.limits.TheConstants.{MAX_STEPS};
 ghost use Rattle.rh_play_run.specs.Drawing.{DrawsPlay};
 ghost use Rattle.rh_play_run.specs.Run.{TellsPlay};
@@ -11,8 +11,9 @@ ghost use Rattle.rhplay.specs.Endings.{steps_asked};
 
 use crate::status::{Fault, drawing, playing};
 use rh_bytes::Counted;
-use rh_cli::{ProgramFault, Status, buffered_reader, buffered_writer, finish, open};
+use rh_cli::{ProgramFault, Status};
 use rh_play_run::{Telling, draw_play, tell_play};
+use rh_streams::{buffered_reader, buffered_writer, finish, open};
 use std::alloc::Global;
 use std::fs::Files;
 use std::io::{BufReader, BufWriter, Read, Write};

@@ -7,8 +7,7 @@ ghost use Rattle.rh_threads.specs.Made.{IsWorkers};
 use rh_arguments::LineFault;
 use rh_bytes::Progress;
 use rh_cli::{
-    Outlet, ProgramFault, ProgressLine, STANDARD_INPUT, Status, answer, hold_closed, size_of,
-    tell_note, words,
+    Outlet, ProgramFault, ProgressLine, STANDARD_INPUT, Status, answer, hold_closed, size_of, words,
 };
 use rh_commands::line::{Line, line};
 use rh_runner::Single;
@@ -16,6 +15,7 @@ use rh_set_program::{
     Fault, Note, Output, check_file, conclude, dump_streams, note_on_check, note_on_dump,
     note_on_unwritten, run_by,
 };
+use rh_streams::tell_note;
 use rh_threads::Threads;
 use std::cell::RefCell;
 use std::env::Env;

@@ -1,7 +1,4 @@
-use Rattle.std.proofs.Common.{◌≡◌, ◌∙◌, ◌+◌, ◌-◌, ◌^◌, ◌++◌, ap, arith, sym, length}
-use Rattle.std.specs.Prelude.{min}
-use Rattle.rh_combine.specs.Combine.{answer}
-use Rattle.rh_borders.specs.Borders.{between}
+use Rattle.std.proofs.Common.{◌∙◌, ◌+◌, ◌++◌, ap, arith, sym, length}
 use Rattle.rh_combine_workers.specs.Spelled.{spelled}
 use Rattle.rh_combine_workers.proofs.RoundLemmas.{both_spelled, count_more, none_counted, nothing_spelled}
 use Rattle.rh_combine_workers.proofs.group.group_of.Goals as goal

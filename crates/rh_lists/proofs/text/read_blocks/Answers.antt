@@ -3,9 +3,8 @@ use Rattle.std.specs.Io.KnownBytes.{Consumes}
 use Rattle.std.proofs.lemmas.List.{take_all, take_at, with_items_is}
 use Rattle.std.proofs.lemmas.Result.{IfOk-at_ok, err_from_is_err_and}
 use Rattle.rh_bytes.specs.Counting.{inner_of}
-use Rattle.rh_numbers.specs.declared.limits.TheConstants.{MAX_BYTES}
 use Rattle.rh_lists.specs.Parts.{IsPartOf, IsReadTo, end_of_part}
-use Rattle.rh_lists.proofs.Texts.{block_refused, going_on, last_read, last_tested, long_taken, not_failed, taken_on}
+use Rattle.rh_lists.proofs.Texts.{block_refused, going_on, last_read, last_tested, not_failed, taken_on}
 use Rattle.rh_lists.proofs.text.read_blocks.Goals as goal
 
 pub returns-in_err-text-clause-read : goal.returns-in_err-text-clause-read

@@ -3,7 +3,7 @@ use Rattle.std.specs.Io.Buffered.{writer_contents}
 use Rattle.rh_bytes.specs.Counting.{Writes, inner_of}
 use Rattle.rh_bytes.proofs.Writing.{emitted_text}
 use Rattle.rh_splitting.specs.Plan.{plan_text}
-use Rattle.rh_cli.proofs.EndingLemmas.{ends_with, told_as_tells}
+use Rattle.rh_streams.proofs.EndingLemmas.{ends_with, told_as_tells}
 use Rattle.rh_pack_program.proofs.splitting.tell_plan.Goals as goal
 
 pub returns : goal.returns

@@ -2,7 +2,7 @@ use Rattle.std.proofs.Common.{subst, map, string_bytes}
 use Rattle.std.specs.Io.Buffered.{writer_contents}
 use Rattle.rh_bytes.specs.Counting.{inner_of}
 use Rattle.rh_key_texts.specs.Files.{ListsFiles}
-use Rattle.rh_cli.proofs.EndingLemmas.{ends_with}
+use Rattle.rh_streams.proofs.EndingLemmas.{ends_with}
 use Rattle.rh_pack_program.proofs.streams.list_out.Goals as goal
 
 pub returns : goal.returns

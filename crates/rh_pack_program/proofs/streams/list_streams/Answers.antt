@@ -1,6 +1,6 @@
 use Rattle.std.proofs.Common.{subst}
-use Rattle.rh_cli.specs.Endings.{EndsBy}
-use Rattle.rh_cli.proofs.EndingLemmas.{ends_by}
+use Rattle.rh_streams.specs.Finishing.{EndsBy}
+use Rattle.rh_streams.proofs.EndingLemmas.{ends_by}
 use Rattle.rh_pack_program.specs.Told.{TellsFileAt, of_program}
 use Rattle.rh_pack_program.proofs.streams.list_streams.Goals as goal
 

@@ -4,8 +4,8 @@ use Rattle.rh_bytes.specs.Counting.{inner_of}
 use Rattle.rh_script.specs.Script.{steps_of}
 use Rattle.rh_script_run.specs.Ends.{Ends as Means}
 use Rattle.rh_script_run.specs.Environment.{environment}
-use Rattle.rh_cli.specs.ByLine.{lines_to}
-use Rattle.rh_cli.proofs.EndingLemmas.{ends_with, ends_by, told_as_tells}
+use Rattle.rh_streams.specs.ByLine.{lines_to}
+use Rattle.rh_streams.proofs.EndingLemmas.{ends_with, ends_by, told_as_tells}
 use Rattle.rh_set_program.specs.declared.status.Fault.TheVariants.{Program}
 use Rattle.rh_set_program.proofs.script.run_out.Goals as goal
 

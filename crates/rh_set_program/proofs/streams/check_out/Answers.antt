@@ -2,7 +2,7 @@ use Rattle.std.proofs.Common.{subst}
 use Rattle.std.specs.Io.Buffered.{writer_contents}
 use Rattle.rh_bytes.specs.Counting.{inner_of}
 use Rattle.rh_commands.specs.Check.{Checks}
-use Rattle.rh_cli.proofs.EndingLemmas.{ends_with, told_as_tells}
+use Rattle.rh_streams.proofs.EndingLemmas.{ends_with, told_as_tells}
 use Rattle.rh_set_program.proofs.streams.check_out.Goals as goal
 
 pub returns : goal.returns

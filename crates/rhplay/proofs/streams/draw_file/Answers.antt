@@ -1,5 +1,5 @@
 use Rattle.std.proofs.Common.{inr}
-use Rattle.rh_cli.proofs.EndingLemmas.{ends_by}
+use Rattle.rh_streams.proofs.EndingLemmas.{ends_by}
 use Rattle.rhplay.specs.declared.status.Fault.TheVariants.{Program}
 use Rattle.rhplay.proofs.streams.draw_file.Goals as goal
 

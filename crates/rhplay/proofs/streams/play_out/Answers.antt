@@ -2,7 +2,7 @@ use Rattle.std.proofs.Common.{subst}
 use Rattle.std.specs.Io.Buffered.{writer_contents}
 use Rattle.rh_bytes.specs.Counting.{inner_of}
 use Rattle.rh_play_run.specs.Run.{TellsPlay}
-use Rattle.rh_cli.proofs.EndingLemmas.{ends_with, told_as_tells}
+use Rattle.rh_streams.proofs.EndingLemmas.{ends_with, told_as_tells}
 use Rattle.rhplay.proofs.streams.play_out.Goals as goal
 
 pub returns : goal.returns

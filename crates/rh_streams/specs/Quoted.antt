@@ -1,7 +1,7 @@
 -- Bytes as they are shown to a person.
-use Rattle.std.specs.Prelude.{ℕ, Bool, ◌+◌, ◌-◌, ◌/◌, ◌%◌, ◌++◌, List, [], ◌∷◌, codes, length, take, if◌then◌else◌, nat_eq, nat_le, nat_lt, ◌&&◌, ◌||◌}
+use Rattle.std.specs.Prelude.{ℕ, Bool, ◌+◌, ◌/◌, ◌%◌, ◌++◌, List, [], ◌∷◌, codes, length, take, if◌then◌else◌, nat_eq, nat_le, nat_lt, ◌&&◌, ◌||◌}
 use Rattle.std.specs.List.{flat_map}
-use Rattle.rh_cli.specs.declared.showing.TheConstants.{MAX_SHOWN}
+use Rattle.rh_streams.specs.declared.showing.TheConstants.{MAX_SHOWN}
 
 -- the hexadecimal digit of a number below 16
 abbrev pub digit_of : ℕ → ℕ

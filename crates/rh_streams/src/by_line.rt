@@ -2,7 +2,7 @@
 
 ghost use Rattle.std.specs.Io.{WritesAtMost};
 ghost use Rattle.std.specs.Io.KnownBytes.{Keeps, WriteAppends};
-ghost use Rattle.rh_cli.specs.ByLine.{lines_to};
+ghost use Rattle.rh_streams.specs.ByLine.{lines_to};
 
 use std::io::{self, Write};
 

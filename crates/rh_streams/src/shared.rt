@@ -3,7 +3,7 @@
 ghost use Rattle.std.specs.Prelude.{◌≡◌, false};
 ghost use Rattle.std.specs.Io.{ReadsAtMost, WritesAtMost};
 ghost use Rattle.std.specs.Io.KnownBytes.{Keeps, ReadConsumes, WriteAppends};
-ghost use Rattle.rh_cli.specs.Shared.{read_beside, written_beside};
+ghost use Rattle.rh_streams.specs.Shared.{read_beside, written_beside};
 
 use rh_bytes::Progress;
 use std::cell::RefCell;

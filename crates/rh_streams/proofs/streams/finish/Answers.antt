@@ -1,6 +1,6 @@
 use Rattle.std.proofs.Common.{rules, refl}
-use Rattle.rh_cli.proofs.streams.finish.Goals as goal
-use Rattle.rh_cli.proofs.streams.finish.Goals.{in-Ok, in-Err}
+use Rattle.rh_streams.proofs.streams.finish.Goals as goal
+use Rattle.rh_streams.proofs.streams.finish.Goals.{in-Ok, in-Err}
 
 pub returns : goal.returns
 returns g c = record {

@@ -4,12 +4,12 @@ use Rattle.std.specs.Global.{Global}
 use Rattle.std.specs.Io.Buffered.{writer_contents}
 use Rattle.std.specs.Io.KnownBytes.{Keeps}
 use Rattle.std.specs.declared.io.buffered.BufWriter.{BufWriter}
-use Rattle.rh_cli.specs.Endings.{status_by, told_as, ToldAs, EndsBy, EndsWith, Finishes}
+use Rattle.rh_streams.specs.Finishing.{status_by, told_as, ToldAs, EndsBy, EndsWith, Finishes}
 use Rattle.rh_cli.specs.declared.status.ProgramFault.{ProgramFault}
 use Rattle.rh_cli.specs.declared.status.ProgramFault.TheVariants as fault
 use Rattle.rh_cli.specs.declared.status.Status.{Status}
 
--- a command that status_by so status_by by its work, or because its output could not be written out
+-- a command that ended so ended by its work, or because its output could not be written out
 pub ends_by : {X E F : Type 0} (Tells : E → F → Type 0) (of_program : ProgramFault → F) (outcome : Result X E) (told written : Result (Unit {0}) F) (r : Result Status F) → ToldAs Tells outcome told → IfErr written (λ f. f ≡ of_program fault.Write) → r ≡ status_by told written → EndsBy Tells of_program r
 ends_by Tells of_program (Ok x) told (Ok y) r tells write ends = rw (ends, tells) refl
 ends_by Tells of_program (Ok x) told (Err f) r tells write ends = rw (ends, tells) (inr (inl write))

@@ -1,13 +1,27 @@
-//! The streams of a program, each behind a buffer.
+//! The streams of a command, each behind a buffer, and how it ends.
 
-ghost use Rattle.std.specs.Prelude.{◌≡◌, [], IfOk, IfErr};
+ghost use Rattle.std.specs.Prelude.{◌≡◌, ◌⊎◌, [], IfOk, IfErr};
 ghost use Rattle.std.specs.Io.Buffered.{reader_buffer, reader_capacity, reader_inner};
 ghost use Rattle.std.specs.Io.Buffered.{writer_buffer, writer_capacity, writer_inner};
-ghost use Rattle.rh_cli.specs.Endings.{Finishes};
+ghost use Rattle.rh_streams.specs.Finishing.{Finishes, status_by};
 
-use crate::status::{ProgramFault, Status, status_of};
+use rh_cli::{ProgramFault, Status};
 use std::alloc::Global;
-use std::io::{BufReader, BufWriter, Read, Write};
+use std::fs::{self, Files};
+use std::io::{BufReader, BufWriter, ErrorKind, Read, Write};
+
+/// The file at the path, opened to be read.
+pub fn open<F: Files>(files: &F, path: &str) -> Result<F::File, ProgramFault>
+    ensures { IfErr result (λ f. (f ≡ ProgramFault.Memory) ⊎ (f ≡ ProgramFault.Open)) }
+{
+    match fs::open(files, path) {
+        Ok(file) => Ok(file),
+        Err(error) => Err(match error.kind() {
+            ErrorKind::OutOfMemory => ProgramFault::Memory,
+            _ => ProgramFault::Open,
+        }),
+    }
+}
 
 /// The reader behind an empty buffer of 8,192 bytes.
 pub fn buffered_reader<R: Read + Drop>(
@@ -56,4 +70,18 @@ pub fn finish<F: Drop, W: Write + Drop>(
         Err(_) => Err(unwritten),
     };
     (status_of(told, written), writer)
+}
+
+/// How a command ends whose work came to the one, and the writing out of what it had left in a
+/// buffer to the other.
+fn status_of<E: Drop>(told: Result<(), E>, written: Result<(), E>) -> Result<Status, E>
+    ensures { result ≡ status_by told written }
+{
+    match told {
+        Ok(()) => match written {
+            Ok(()) => Ok(Status::Done),
+            Err(fault) => Err(fault),
+        },
+        Err(fault) => Err(fault),
+    }
 }

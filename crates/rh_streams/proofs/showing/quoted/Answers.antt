@@ -1,9 +1,8 @@
-use Rattle.std.proofs.Common.{◌≡◌, ◌≤◌, ap, length, take, rules, subst, arith}
-use Rattle.std.specs.List.{flat_map}
+use Rattle.std.proofs.Common.{◌≡◌, take, rules}
 use Rattle.std.proofs.lemmas.List.{take_all, take_min}
-use Rattle.rh_cli.specs.declared.showing.TheConstants.{MAX_SHOWN}
-use Rattle.rh_cli.specs.Quoted.{quoted, shown}
-use Rattle.rh_cli.proofs.showing.quoted.Goals as goal
+use Rattle.rh_streams.specs.declared.showing.TheConstants.{MAX_SHOWN}
+use Rattle.rh_streams.specs.Quoted.{quoted}
+use Rattle.rh_streams.proofs.showing.quoted.Goals as goal
 
 pub returns : goal.returns
 unfolding quoted

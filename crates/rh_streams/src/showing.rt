@@ -2,7 +2,7 @@
 
 ghost use Rattle.std.specs.Prelude.{◌≡◌, ◌++◌, ◌<◌, [], ◌∷◌, IfOk, OnOk, string_bytes};
 ghost use Rattle.std.specs.Char.{encode_utf8};
-ghost use Rattle.rh_cli.specs.Quoted.{closing, digit_of, quoted, shown};
+ghost use Rattle.rh_streams.specs.Quoted.{closing, digit_of, quoted, shown};
 
 use std::alloc::{AllocError, Global};
 

@@ -1,0 +1,3 @@
+-- EndingLemmas: how a command may end.
+
+pub mod EndingLemmas
