@@ -5,7 +5,7 @@
 -- Fronts: the keys that were read come first among those that are said.
 -- Parts: a text that is read in parts.
 -- Chunks: a chunk of a text, read line by line.
--- FewDigits: plain lines, of a few digits alone.
+-- FewDigits: plain lines, of a few digits and what ends a line.
 -- TwoTexts: two texts one after the other, of which the first is whole lines.
 -- Taken: how much of a text is taken up to its first fault.
 -- Meaning: what is read is a text of its keys.

@@ -1,3 +1,4 @@
+pub mod Digits
 pub mod Grammar
 pub mod Reading
 pub mod Parts

@@ -1,22 +1,34 @@
-//! Plain lines: digits alone, not many, and a line feed. They are read without the states of a
-//! line.
+//! Plain lines: digits alone, not many, and what ends a line. They are read without the states of
+//! a line.
 
 ghost use Rattle.std.specs.Prelude.{◌≡◌, ◌≤◌, ◌<◌, ◌+◌, ◌++◌, ℕ, List, [], ◌∷◌, All, IfOk, IfSome, drop, length, take};
-ghost use Rattle.std.specs.Str.Parse.{AllDigits, digits_value};
 ghost use Rattle.rh_layout.specs.Key.{IsKey};
+ghost use Rattle.rh_numbers.specs.Digits.{AreDigits};
+ghost use Rattle.rh_numbers.specs.Grammar.{IsReturn};
 ghost use Rattle.rh_numbers.specs.Reading.{said_from};
 ghost use Rattle.rh_numbers.specs.declared.line_so_far.LineSoFar.TheVariants.{Start};
 
+use core::dec2flt::read_digits;
 use rh_layout::MAX_KEY;
 use std::alloc::AllocError;
 
 /// The most digits of a plain line, as the greatest key has: so many make a number below 2^64.
 const PLAIN_DIGITS: usize = 19;
 
-/// The digits that a text begins with, and their number.
+/// The most that are read one by one.
+const FEW_DIGITS: usize = 3;
+
+/// Digits that a text begins with, and their number.
 #[derive(Clone, Copy)]
 struct Digits {
     number: u64,
+    length: usize,
+}
+
+/// A plain line: its key, and how many bytes it has, those that end it among them.
+#[derive(Clone, Copy)]
+struct PlainLine {
+    key: u64,
     length: usize,
 }
 
@@ -27,45 +39,95 @@ pub(crate) struct PlainLines {
     pub length: usize,
 }
 
-/// The digits that the text begins with, so many at the most.
-fn digits_of(text: &[u8]) -> Digits
-    ensures few { result.length ≤ PLAIN_DIGITS }
-    ensures within { result.length ≤ length text.now }
-    ensures are { AllDigits 10 (take result.length text.now) }
-    ensures number { result.number ≡ digits_value 10 (take result.length text.now) }
-{
-    let most = text.len().min(PLAIN_DIGITS);
-    let mut number = 0u64;
-    for length in 0..most {
-        let b = text[length];
-        if !b.is_ascii_digit() {
-            return Digits { number, length };
+impl Digits {
+    /// These digits of the text, and the one behind them, if one stands there.
+    #[inline(always)]
+    fn and_next(self, text: &[u8]) -> Digits
+        requires begin { AreDigits text.now self }
+        requires few { self.length < FEW_DIGITS }
+        ensures begin { AreDigits text.now result }
+        ensures few { result.length ≤ self.length + 1 }
+    {
+        let Digits { number, length } = self;
+        if length >= text.len() || !text[length].is_ascii_digit() {
+            return self;
         }
-        number = number * 10 + u64::from(b - b'0');
-    }
-    Digits {
-        number,
-        length: most,
+        Digits {
+            number: number * 10 + u64::from(text[length] - b'0'),
+            length: length + 1,
+        }
     }
 }
 
+/// The digits that the text begins with, a few at the most, one by one.
+fn few_digits_of(text: &[u8]) -> Digits
+    ensures begin { AreDigits text.now result }
+    ensures few { result.length ≤ FEW_DIGITS }
+{
+    let none = Digits {
+        number: 0,
+        length: 0,
+    };
+    none.and_next(text).and_next(text).and_next(text)
+}
+
+/// Whether the text begins with a few digits alone: to read them one by one takes less time then
+/// than to read them eight at a time. Nothing else depends on it.
+fn is_short(text: &[u8]) -> bool {
+    match text {
+        [_, second, third, fourth, ..] => *second < b'0' || *third < b'0' || *fourth < b'0',
+        _ => true,
+    }
+}
+
+/// The digits that the text begins with, so many at the most.
+fn digits_of(text: &[u8]) -> Digits
+    ensures begin { AreDigits text.now result }
+    ensures few { result.length ≤ PLAIN_DIGITS }
+{
+    if is_short(text) {
+        return few_digits_of(text);
+    }
+    let most = text.len().min(PLAIN_DIGITS);
+    let (length, number) = read_digits(&text[..most], 0, 0);
+    Digits { number, length }
+}
+
+/// Where the next line begins, if the line ends at this place: by a line feed, before which a
+/// carriage return may stand.
+fn behind_end(text: &[u8], at: usize) -> Option<usize>
+    requires { at ≤ length text.now }
+    ensures within { IfSome result (λ next. (at < next) × (next ≤ length text.now)) }
+    ensures ends { IfSome result (λ next. (end : List ℕ) × IsReturn end
+        × (drop at text.now ≡ end ++ 10 ∷ drop next text.now)) }
+{
+    if at < text.len() && text[at] == b'\n' {
+        return Some(at + 1);
+    }
+    let feed = at + 1;
+    if feed < text.len() && text[at] == b'\r' && text[feed] == b'\n' {
+        return Some(feed + 1);
+    }
+    None
+}
+
 /// The plain line that the text begins with.
-fn plain_line(text: &[u8]) -> Option<Digits>
-    ensures within { IfSome result (λ line. line.length < length text.now) }
+fn plain_line(text: &[u8]) -> Option<PlainLine>
+    ensures within { IfSome result (λ line. (0 < line.length) × (line.length ≤ length text.now)) }
     ensures read { IfSome result (λ line. (keys : List ℕ) (at : ℕ) (more : List ℕ) →
         said_from keys at Start (text.now ++ more)
-        ≡ said_from (keys ++ line.number ∷ []) (at + 1) Start
-        (drop (line.length + 1) text.now ++ more)) }
-    ensures in_range { IfSome result (λ line. IsKey line.number) }
+        ≡ said_from (keys ++ line.key ∷ []) (at + 1) Start (drop line.length text.now ++ more)) }
+    ensures in_range { IfSome result (λ line. IsKey line.key) }
 {
-    let line = digits_of(text);
-    if line.length == 0 || line.length >= text.len() || text[line.length] != b'\n' {
+    let Digits { number, length } = digits_of(text);
+    if length == 0 || number > MAX_KEY {
         return None;
     }
-    if line.number > MAX_KEY {
-        return None;
-    }
-    Some(line)
+    let next = behind_end(text, length)?;
+    Some(PlainLine {
+        key: number,
+        length: next,
+    })
 }
 
 /// Takes the keys of the plain lines that the text begins with.
@@ -80,9 +142,9 @@ pub(crate) fn take_plain_lines(keys: &mut Vec<u64>, text: &[u8]) -> Result<Plain
     let mut count = 0;
     let mut passed = 0;
     while let Some(line) = plain_line(&text[passed..]) {
-        keys.push(line.number)?;
+        keys.push(line.key)?;
         count += 1;
-        passed += line.length + 1;
+        passed += line.length;
     }
     Ok(PlainLines {
         count,

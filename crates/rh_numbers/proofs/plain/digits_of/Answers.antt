@@ -1,26 +1,28 @@
-use Rattle.std.proofs.Common.{rules, ◌≡◌, ◌≤◌, ◌-◌, true, take, get_or, arith, length-take}
-use Rattle.std.specs.Char.{is_ascii_digit}
-use Rattle.rh_numbers.proofs.FewDigits.{few_digits, one_more_digit}
+use Rattle.std.proofs.Common.{◌≡◌, ℕ, ◌≤◌, ◌+◌, ◌*◌, ◌%◌, ◌^◌, List, take, ap, arith, length-take}
+use Rattle.std.specs.Str.Parse.{AllDigits, digits_value}
+use Rattle.std.proofs.lemmas.List.{take-take}
+use Rattle.core.proofs.dec2flt.Rows.{AllDigits-digits_len}
+use Rattle.rh_numbers.proofs.FewDigits.{few_digits}
 use Rattle.rh_numbers.proofs.plain.digits_of.Goals as goal
 
-pub overflow_mul-number : goal.overflow_mul-number
-overflow_mul-number c =
-    let digits = take c.loop-length.length c.args.text.now in
-    let small = few_digits digits 18 c.loop-length.invariant.are (omega (arith, length-take c.loop-length.length c.args.text.now)) in
-    omega (arith, small, c.loop-length.invariant.number)
+-- the number that was read of digits among a text's first bytes, so few that it does not wrap
+number_read : (text : List ℕ) (most n m p k : ℕ) → n ≤ most → most ≤ 19 → AllDigits 10 (take n text) → m ≡ n → k ≡ (0 * p + digits_value 10 (take m (take most text))) % 2 ^ 64
+    → k ≡ digits_value 10 (take n text)
+number_read text most n m p k some few are same is =
+    let small = few_digits (take n text) 19 are (omega (arith, length-take n text)) in
+    let here = ap (λ i. digits_value 10 (take i (take most text))) same in
+    omega (arith, is, small, here, ap (digits_value 10) (take-take n most text some))
 
-pub overflow_add-number : goal.overflow_add-number
-overflow_add-number c =
-    let digits = take c.loop-length.length c.args.text.now in
-    let small = few_digits digits 18 c.loop-length.invariant.are (omega (arith, length-take c.loop-length.length c.args.text.now)) in
-    let one : c.from.result ≤ 9 = search rules in
-    omega (arith, small, c.loop-length.invariant.number, one)
-
-pub loop-length-preserved : goal.loop-length-preserved
-loop-length-preserved c =
+pub returns-clause-begin : goal.returns-clause-begin
+returns-clause-begin c =
     let text = c.args.text.now in
-    let n = c.loop-length.length in
-    let digit : is_ascii_digit (get_or text n 0) ≡ true = search rules in
-    let value : c.from.result ≡ get_or text n 0 - 48 = search rules in
-    let more = one_more_digit text n c.loop-length.number c.from.result (omega arith) c.loop-length.invariant.are c.loop-length.invariant.number digit value in
-    record { are = more.0; number = more.1 }
+    let most = c.min-most.result in
+    let n = c.read_digits-length.result.0 in
+    let all : AllDigits 10 (take n (take most text)) = AllDigits-digits_len (take most text) n (omega (arith, c.read_digits-length.ensures.end)) in
+    let some : n ≤ most = omega (arith, c.read_digits-length.ensures.within, length-take most text) in
+    let are : AllDigits 10 (take n text) = rw (take-take n most text some) at all in
+    record {
+      within = omega (arith, some);
+      are = are;
+      number = number_read text most n _ _ _ some (omega arith) are (omega arith) c.read_digits-length.ensures.value;
+    }
