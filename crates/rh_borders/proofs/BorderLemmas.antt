@@ -4,7 +4,7 @@ use Rattle.std.specs.Prelude.{◌&&◌, ◌==◌, slice_index}
 use Rattle.std.proofs.lemmas.Bool.{cases_lt, eq-eqb, le-ltb, lt-ltb, ne_eqb}
 use Rattle.rh_layout.specs.declared.limits.TheConstants.{MAX_KEY}
 use Rattle.rh_layout.specs.Range.{stands}
-use Rattle.rh_borders.specs.Borders.{AreBorders}
+use Rattle.rh_borders.specs.Borders.{AreBorders, StandsIn}
 
 module _ (borders : List ℕ) (are : AreBorders borders) where
   pub rises : (i k : ℕ) → i + k < length borders → slice_index borders i ≤ slice_index borders (i + k)
@@ -31,22 +31,21 @@ module _ (borders : List ℕ) (are : AreBorders borders) where
   and_none true = refl
   and_none false = refl
 
-  pub part_is : (low key : ℕ) → low + 1 < length borders → slice_index borders low ≤ key → key < slice_index borders (low + 1) → (p : ℕ) → p + 1 < length borders
-      → stands (slice_index borders p) (slice_index borders (p + 1)) key ≡ (low == p)
-  part_is low key inside above below p here =
+  pub part_is : (low key : ℕ) → StandsIn borders low key → (p : ℕ) → p + 1 < length borders → stands (slice_index borders p) (slice_index borders (p + 1)) key ≡ (low == p)
+  part_is low key there p here =
       elim (cases_lt p low) [
         | inl before ↦
-            let past : slice_index borders (p + 1) ≤ key = omega (arith, rise_to (p + 1) low (omega (arith, before)) (omega (arith, inside)), above) in
+            let past : slice_index borders (p + 1) ≤ key = omega (arith, rise_to (p + 1) low (omega (arith, before)) (omega (arith, there.inside)), there.above) in
             rw (le-ltb key (slice_index borders (p + 1)) past, ne_eqb low p (λ e. omega (arith, e, before))) (and_none _)
         | inr no_less ↦
             elim (cases_lt low p) [
               | inl behind ↦
-                  let early : key < slice_index borders p = omega (arith, rise_to (low + 1) p (omega (arith, behind)) (omega (arith, here)), below) in
+                  let early : key < slice_index borders p = omega (arith, rise_to (low + 1) p (omega (arith, behind)) (omega (arith, here)), there.below) in
                   rw (lt-ltb key (slice_index borders p) early, ne_eqb low p (λ e. omega (arith, e, behind))) refl
               | inr no_more ↦
                   let same : low ≡ p = omega (arith, no_less, no_more) in
-                  let begun : slice_index borders p ≤ key = omega (arith, ap (slice_index borders) same, above) in
-                  let not_past : key < slice_index borders (p + 1) = omega (arith, ap (λ n. slice_index borders (n + 1)) same, below) in
+                  let begun : slice_index borders p ≤ key = omega (arith, ap (slice_index borders) same, there.above) in
+                  let not_past : key < slice_index borders (p + 1) = omega (arith, ap (λ n. slice_index borders (n + 1)) same, there.below) in
                   rw (le-ltb key (slice_index borders p) begun, lt-ltb key (slice_index borders (p + 1)) not_past, eq-eqb low p same) refl
             ]
       ]

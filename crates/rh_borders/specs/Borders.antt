@@ -11,6 +11,22 @@ pub record AreBorders (borders : List ℕ) : Type 0 where
   pub last : (p : ℕ) → p + 1 ≡ length borders → slice_index borders p ≡ MAX_KEY + 1
   pub rise : (p : ℕ) → p + 1 < length borders → slice_index borders p ≤ slice_index borders (p + 1)
 
+-- each of the numbers is that of a part
+abbrev pub NameParts : (borders numbers : List ℕ) → Type 0
+NameParts borders numbers = All (λ p. p + 1 < length borders) numbers
+
+-- the key stands in this part: it is no less than the border before it, and less than the one behind it
+pub record StandsIn (borders : List ℕ) (part key : ℕ) : Type 0 where
+  pub inside : part + 1 < length borders
+  pub above : slice_index borders part ≤ key
+  pub below : key < slice_index borders (part + 1)
+
+-- for each key the number of the part in which it stands
+pub record AreNumbers (borders keys numbers : List ℕ) : Type 0 where
+  pub many : length numbers ≡ length keys
+  pub inside : NameParts borders numbers
+  pub each : (i : ℕ) → i < length keys → StandsIn borders (slice_index numbers i) (slice_index keys i)
+
 -- the numbers of a list from border p up to before border q, in the list's order
 abbrev pub between : (borders : List ℕ) (p q : ℕ) → List ℕ → List ℕ
 between borders p q keys = within (slice_index borders p) (slice_index borders q) keys

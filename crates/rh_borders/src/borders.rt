@@ -1,9 +1,10 @@
 //! The borders between parts.
 
 ghost use Rattle.std.specs.Prelude.{◌≤◌, ◌<◌, ◌+◌, length};
-ghost use Rattle.rh_borders.specs.Borders.{AreBorders};
+ghost use Rattle.rh_borders.specs.Borders.{AreBorders, NameParts};
 ghost use Rattle.rh_borders.specs.declared.limits.TheConstants.{MOST_PARTS};
 
+use crate::hints::{Hints, hints_for};
 use crate::limits::MOST_PARTS;
 use rh_layout::MAX_KEY;
 use rh_pieces::KeyList;
@@ -22,8 +23,10 @@ const SAMPLE: usize = 16;
 #[derive(Drop)]
 pub struct Borders {
     pub values: Vec<u64>,
+    pub(crate) hints: Hints,
     ghost are: { AreBorders values.items },
     ghost few: { length values.items ≤ MOST_PARTS + 1 },
+    ghost hinted: { NameParts values.items hints.parts.items },
 }
 
 /// How many keys the lists have, repeats counted.
@@ -97,7 +100,8 @@ fn borders_at(alloc: Global, sample: &[u64], parts: usize) -> Result<Borders, Al
         values.push(last)?;
     }
     values.push(MAX_KEY + 1)?;
-    Ok(Borders { values })
+    let hints = hints_for(alloc, &values, sample)?;
+    Ok(Borders { values, hints })
 }
 
 /// Borders for the keys of the lists, of which there are so many, by a sample of them: about as

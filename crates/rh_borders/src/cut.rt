@@ -1,27 +1,26 @@
 //! A piece of a list is cut into parts.
 
-ghost use Rattle.std.specs.Prelude.{◌≡◌, ℕ, ◌+◌, ◌<◌, ◌≤◌, ◌==◌, All, IfOk, length, slice_index};
+ghost use Rattle.std.specs.Prelude.{◌≡◌, ◌+◌, ◌<◌, ◌≤◌, All, IfOk, length};
 ghost use Rattle.rh_layout.specs.Key.{IsKey};
-ghost use Rattle.rh_layout.specs.Range.{stands};
-ghost use Rattle.rh_borders.specs.Borders.{AreParts};
+ghost use Rattle.rh_borders.specs.Borders.{AreBorders, AreNumbers, AreParts, StandsIn};
+ghost use Rattle.rh_borders.specs.declared.limits.TheConstants.{MOST_PARTS};
 
 use crate::borders::Borders;
+use crate::limits::MOST_PARTS;
 use crate::parts::Parts;
 use std::alloc::{AllocError, Global};
 
-/// The part in which a key stands.
-fn part_of(borders: &Borders, key: u64) -> usize
-    requires { IsKey key }
-    ensures inside { result + 1 < length borders.now.values.items }
-    ensures part { (p : ℕ) → p + 1 < length borders.now.values.items →
-        stands (slice_index borders.now.values.items p)
-        (slice_index borders.now.values.items (p + 1)) key ≡ (result == p) }
+/// The part in which a key stands, by a search among the borders.
+fn part_among(values: &[u64], key: u64) -> usize
+    requires are { AreBorders values.now }
+    requires in_range { IsKey key }
+    ensures { StandsIn values.now result key }
 {
     let mut low = 0;
-    let mut size = borders.values.len() - 1;
+    let mut size = values.len() - 1;
     while size > 1 {
         let half = size / 2;
-        if borders.values[low + half] <= key {
+        if values[low + half] <= key {
             low += half;
         }
         size -= half;
@@ -29,22 +28,47 @@ fn part_of(borders: &Borders, key: u64) -> usize
     low
 }
 
-/// The part of each key.
-fn numbers_of(alloc: Global, borders: &Borders, keys: &[u64]) -> Result<Vec<u16>, AllocError>
-    requires { All IsKey keys.now }
-    ensures len { IfOk result (λ v. length v.items ≡ length keys.now) }
-    ensures inside { IfOk result (λ v. All (λ n. n + 1 < length borders.now.values.items) v.items) }
-    ensures part { IfOk result (λ v. (i p : ℕ) → i < length keys.now →
-        p + 1 < length borders.now.values.items →
-        stands (slice_index borders.now.values.items p)
-        (slice_index borders.now.values.items (p + 1)) (slice_index keys.now i)
-        ≡ (slice_index v.items i == p)) }
+/// The part of each key, by a search.
+fn numbers_by_search(alloc: Global, values: &[u64], keys: &[u64]) -> Result<Vec<u16>, AllocError>
+    requires are { AreBorders values.now }
+    requires few { length values.now ≤ MOST_PARTS + 1 }
+    requires in_range { All IsKey keys.now }
+    ensures { IfOk result (λ v. AreNumbers values.now keys.now v.items) }
 {
     let mut numbers = Vec::with_capacity(alloc, keys.len())?;
     for key in keys {
-        numbers.push(part_of(borders, *key) as u16)?;
+        numbers.push(part_among(values, *key) as u16)?;
     }
     Ok(numbers)
+}
+
+/// The part of each key, most of which stand in the part that is hinted at.
+fn numbers_by_hints(alloc: Global, borders: &Borders, keys: &[u64]) -> Result<Vec<u16>, AllocError>
+    requires { All IsKey keys.now }
+    ensures { IfOk result (λ v. AreNumbers borders.now.values.items keys.now v.items) }
+{
+    let values = borders.values.as_slice();
+    let mut numbers = Vec::with_capacity(alloc, keys.len())?;
+    for key in keys {
+        let part = match borders.hints.part_of(values, *key) {
+            Some(part) => part,
+            None => part_among(values, *key),
+        };
+        numbers.push(part as u16)?;
+    }
+    Ok(numbers)
+}
+
+/// The part of each key. Which way is chosen once: where there are no hints, to look for one would
+/// only take time.
+fn numbers_of(alloc: Global, borders: &Borders, keys: &[u64]) -> Result<Vec<u16>, AllocError>
+    requires { All IsKey keys.now }
+    ensures { IfOk result (λ v. AreNumbers borders.now.values.items keys.now v.items) }
+{
+    if borders.hints.parts.is_empty() {
+        return numbers_by_search(alloc, &borders.values, keys);
+    }
+    numbers_by_hints(alloc, borders, keys)
 }
 
 /// How many keys each part has. So much room is taken for them at once; no more depends on it.

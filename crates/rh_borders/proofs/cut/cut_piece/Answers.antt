@@ -3,6 +3,7 @@ use Rattle.std.specs.Prelude.{◌==◌}
 use Rattle.std.proofs.lemmas.Bool.{cases_eq}
 use Rattle.std.proofs.lemmas.List.{take_all}
 use Rattle.rh_borders.specs.Borders.{between}
+use Rattle.rh_borders.proofs.BorderLemmas.{part_is}
 use Rattle.rh_borders.proofs.CutLemmas.{key_elsewhere, key_more}
 use Rattle.rh_borders.proofs.cut.cut_piece.Goals as goal
 
@@ -13,11 +14,11 @@ loop-i-preserved c =
     let n = c.from.result in
     let before = c.loop-i.invariant in
     let is : n ≡ slice_index numbers i = c.from.ensures ∙ ap (λ l. slice_index l i) c.deref-number-items.ensures.value in
-    let inside_keys : i < length c.args.keys.now = omega (arith, c.in_ok-numbers.ensures.len) in
+    let inside_keys : i < length c.args.keys.now = omega (arith, c.in_ok-numbers.ensures.many) in
     record {
       many = omega (arith, before.many, c.put.ensures.len);
       each = λ p inside.
-          let part = c.in_ok-numbers.ensures.part i p inside_keys (omega (arith, inside, before.many, c.put.ensures.len)) ∙ ap (λ m. m == p) (sym is) in
+          let part = part_is c.args.borders.now.values.items c.args.borders.now.are (slice_index numbers i) (slice_index c.args.keys.now i) (c.in_ok-numbers.ensures.each i inside_keys) p (omega (arith, inside, before.many, c.put.ensures.len)) ∙ ap (λ m. m == p) (sym is) in
           elim (cases_eq p n) [
             | inl here ↦ key_more c.args.borders.now.values.items c.args.keys.now i n p inside_keys part _ _ here (before.each p (omega (arith, inside, c.put.ensures.len))) (rw here c.in_ok-put.ensures.there)
             | inr there ↦ key_elsewhere c.args.borders.now.values.items c.args.keys.now i n p inside_keys part _ _ there (before.each p (omega (arith, inside, c.put.ensures.len))) (c.put.ensures.others p there)
@@ -28,5 +29,5 @@ pub returns : goal.returns
 returns c =
     record {
       many = c.loop-i.invariant.many;
-      each = λ p inside. c.loop-i.invariant.each p inside ∙ ap (between c.args.borders.now.values.items p (p + 1)) (take_all c.loop-i.i c.args.keys.now (omega (arith, c.in_ok-numbers.ensures.len)));
+      each = λ p inside. c.loop-i.invariant.each p inside ∙ ap (between c.args.borders.now.values.items p (p + 1)) (take_all c.loop-i.i c.args.keys.now (omega (arith, c.in_ok-numbers.ensures.many)));
     }
