@@ -6,14 +6,15 @@ ghost use Rattle.rh_helping.specs.Held.{held_in};
 ghost use Rattle.rh_helping.specs.Looking.{kind_of_looking};
 ghost use Rattle.rh_helping.specs.Machine.{looked, looking_of};
 ghost use Rattle.rh_helping.specs.Next.{Looking};
+ghost use Rattle.rh_helping.specs.Seen.{looked_at, looking_at};
 ghost use Rattle.rh_helping.specs.Stepping.{HasLooked, MayLook};
 
 use crate::goal::Owed;
-use crate::machine::{At, Machine, Progress};
+use crate::machine::{Machine, Progress};
 use crate::reading::{CellContent, what_stands};
 use crate::settling::Settling;
 use rh_carrier::Steps;
-use rh_words::{Reading, Request, Shape, Side, StepKind};
+use rh_words::{Reading, Ref, Request, Shape, Side, StepKind};
 
 /// Which step of a worker that looks at a cell is next. What it needs is in its machine.
 #[derive(Clone, Copy)]
@@ -35,6 +36,37 @@ pub enum Sight {
     Sees(u64),
     /// No mark is left.
     Spent,
+}
+
+/// What else than a value stands in a cell.
+#[derive(Clone, Copy)]
+pub enum Met {
+    Mark(Ref),
+    Desc(Ref),
+}
+
+/// What a Read of a cell saw there.
+#[derive(Clone, Copy)]
+pub enum Seen {
+    /// This plain word.
+    Value(u64),
+    /// What a machine goes on from (`Machine::meet`).
+    Other(Met),
+}
+
+/// Reads a cell, with no machine: who sees a value needs none.
+#[inline(always)]
+pub fn read_cell<T: Steps>(shape: &Shape, table: &mut T, side: &mut Side, cell: usize) -> Seen
+    requires { MayLook T.shows T.serves shape.now cell Looking.Read table.old side.old.known.view }
+    ensures { HasLooked T.shows T.made shape.now cell Looking.Read table.old side.old.known.view
+        (looked_at result cell) table.new side.new.known.view }
+{
+    let word = table.make(shape, side, Request::Read(Reading::Cell(cell)));
+    match what_stands(word) {
+        CellContent::Value => Seen::Value(word),
+        CellContent::Mark(mark) => Seen::Other(Met::Mark(mark)),
+        CellContent::Desc(desc) => Seen::Other(Met::Desc(desc)),
+    }
 }
 
 impl Machine {
@@ -108,17 +140,25 @@ impl Machine {
         ensures { HasLooked T.shows T.made shape.now cell Looking.Read table.old
             side.old.known.view (looked result self.new) table.new side.new.known.view }
     {
-        let word = table.make(shape, side, Request::Read(Reading::Cell(cell)));
-        match what_stands(word) {
-            CellContent::Value => Sight::Sees(word),
-            CellContent::Mark(mark) => {
+        match read_cell(shape, table, side, cell) {
+            Seen::Value(word) => Sight::Sees(word),
+            Seen::Other(met) => Sight::On(self.meet(met, cell)),
+        }
+    }
+
+    /// From now on it goes by what was met in this cell.
+    #[inline(always)]
+    pub fn meet(&mut self, met: Met, cell: usize) -> Watch
+        ensures { looking_of result self.new ≡ looking_at met cell }
+    {
+        match met {
+            Met::Mark(mark) => {
                 self.settling = Settling::met(mark, cell);
-                Sight::On(Watch::Settle)
+                Watch::Settle
             }
-            CellContent::Desc(desc) => {
-                self.task.desc = desc;
-                self.at = At::Control;
-                Sight::On(Watch::Help)
+            Met::Desc(desc) => {
+                self.go_about(desc);
+                Watch::Help
             }
         }
     }

@@ -2,14 +2,14 @@
 
 ghost use Rattle.std.specs.Prelude.{◌<◌};
 ghost use Rattle.rh_words.specs.Parts.{cell_count};
-ghost use Rattle.rh_helping.specs.Machine.{looking_of};
 ghost use Rattle.rh_helping.specs.Next.{Looking};
+ghost use Rattle.rh_helping.specs.Seen.{looking_at};
 ghost use Rattle.rh_helping.specs.Stepping.{MayLook};
 ghost use Rattle.rh_shared.specs.Rests.{SeatRests};
 ghost use Rattle.rh_shared.specs.Sits.{Sits};
 ghost use Rattle.rh_swaps.specs.Swaps.{HasLookedAt, HasReadAtRest};
 
-use rh_helping::{Machine, Sight, Watch};
+use rh_helping::{Machine, Met, Seen, Sight, read_cell};
 use rh_shared::{OnTable, Seat, Table};
 use rh_words::{Ref, Shape, Side};
 use std::sync::Wait;
@@ -28,7 +28,7 @@ pub fn read<R: Wait>(rt: &R, table: &Table, seat: &mut Seat, cell: usize) -> Opt
     look(rt, &table.shape, &mut here, &mut seat.side, cell)
 }
 
-/// Looks at the cell.
+/// Looks at the cell. Who sees a value makes no machine.
 #[inline(always)]
 fn look<R: Wait>(
     rt: &R,
@@ -41,33 +41,13 @@ fn look<R: Wait>(
     ensures { HasLookedAt shape.now cell here.old side.old.known.view result here.new
         side.new.known.view }
 {
-    let mut machine = Machine::about(Ref {
-        worker: side.worker,
-        number: 0,
-    });
-    match machine.look(Watch::Read, shape, here, side, cell) {
-        Sight::Sees(word) => Some(word),
-        // (on a copy: so the machine of who meets values alone may be left out)
-        Sight::On(watch) => look_on(
-            rt,
-            shape,
-            here,
-            side,
-            cell,
-            &mut Observer { watch, machine },
-        ),
-        Sight::Spent => None,
+    match read_cell(shape, here, side, cell) {
+        Seen::Value(word) => Some(word),
+        Seen::Other(met) => look_on(rt, shape, here, side, cell, met),
     }
 }
 
-/// A look at a cell where no value stood: which step is next, in its machine.
-#[derive(Clone, Copy)]
-struct Observer {
-    watch: Watch,
-    machine: Machine,
-}
-
-/// Goes on with it until a value stands there.
+/// Goes on from what was met there until a value stands there.
 #[cold]
 #[inline(never)]
 fn look_on<R: Wait>(
@@ -76,19 +56,21 @@ fn look_on<R: Wait>(
     here: &mut OnTable,
     side: &mut Side,
     cell: usize,
-    observer: &mut Observer,
+    met: Met,
 ) -> Option<u64>
-    requires { MayLook Sits Sits shape.now cell
-        (looking_of observer.old.watch observer.old.machine) here.old side.old.known.view }
+    requires { MayLook Sits Sits shape.now cell (looking_at met cell) here.old
+        side.old.known.view }
     ensures { HasLookedAt shape.now cell here.old side.old.known.view result here.new
         side.new.known.view }
 {
+    let mut machine = Machine::about(Ref {
+        worker: side.worker,
+        number: 0,
+    });
+    let mut watch = machine.meet(met, cell);
     for _ in rt.forever() {
-        match observer
-            .machine
-            .look(observer.watch, shape, here, side, cell)
-        {
-            Sight::On(next) => observer.watch = next,
+        match machine.look(watch, shape, here, side, cell) {
+            Sight::On(next) => watch = next,
             Sight::Sees(word) => return Some(word),
             Sight::Spent => return None,
         }

@@ -1,10 +1,14 @@
+use Rattle.std.proofs.Common.{subst, sym}
+use Rattle.rh_helping.specs.Next.{Looking}
+use Rattle.rh_helping.specs.Stepping.{MayLook}
+use Rattle.rh_shared.specs.Sits.{Sits}
 use Rattle.rh_shared.proofs.Lending.{stays_first, stays_on}
 use Rattle.rh_swaps.proofs.Looking.{sees_none, sees_word}
 use Rattle.rh_swaps.proofs.Noting.{made_notes, noted_first, noted_on}
 use Rattle.rh_swaps.proofs.reading.look_on.Goals as goal
 
 pub loop-init : goal.loop-init
-loop-init g c = record { at = c.requires; stays = stays_first _; noted = noted_first _ }
+loop-init g c = record { at = subst (λ (l : Looking). MayLook Sits Sits c.args.shape.now c.args.cell l c.args.here.now c.args.side.now.known.view) (sym c.meet-watch.ensures) c.requires; stays = stays_first _; noted = noted_first _ }
 
 pub loop-preserved : goal.loop-preserved
 loop-preserved g c =
