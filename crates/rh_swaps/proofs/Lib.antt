@@ -2,12 +2,12 @@
 -- for at its next step.
 -- Noting: what a worker has noted, from step to step.
 -- Looking: what a worker that looks at a cell has read there.
--- Left: how many steps of an opening are left, so that it ends.
+-- Opened: the steps of an opening, one after the other.
 -- Carried: the acts that a worker at rest has made, after it noted more.
 -- Swapped: what an own descriptor that was opened and carried out makes of a worker at rest.
 
 pub mod Noting
 mod Looking
 pub mod Carried
-mod Left
+mod Opened
 mod Swapped

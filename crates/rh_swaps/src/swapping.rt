@@ -76,10 +76,15 @@ pub fn open(shape: &Shape, here: &mut OnTable, side: &mut Side, entries: &[Entry
     ensures opens { HasOpened side.old.known.view
         (next_own side.old.known.view entries.now) side.new.known.view }
 {
-    let mut opening = Opening::Serial;
-    while let Some(next) = opening.step(shape, here, side, entries) {
-        opening = next;
+    // (each step by its name, and no loop over the machine: so no step is looked up when it runs)
+    let _ = Opening::Serial.step(shape, here, side, entries);
+    let _ = Opening::Length.step(shape, here, side, entries);
+    for at in 0..entries.len() {
+        let _ = Opening::Cell(at).step(shape, here, side, entries);
+        let _ = Opening::Old(at).step(shape, here, side, entries);
+        let _ = Opening::New(at).step(shape, here, side, entries);
     }
+    let _ = Opening::Open.step(shape, here, side, entries);
 }
 
 /// Goes about the own open descriptor until it is decided and released, and answers how it ended:
