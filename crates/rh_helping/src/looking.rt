@@ -8,13 +8,15 @@ ghost use Rattle.rh_helping.specs.Machine.{looked, looking_of};
 ghost use Rattle.rh_helping.specs.Next.{Looking};
 ghost use Rattle.rh_helping.specs.Seen.{looked_at, looking_at};
 ghost use Rattle.rh_helping.specs.Stepping.{HasLooked, MayLook};
+ghost use Rattle.rh_words.specs.Words.{cell_in};
 
 use crate::goal::Owed;
 use crate::machine::{Machine, Progress};
 use crate::reading::{CellContent, what_stands};
 use crate::settling::Settling;
 use rh_carrier::Steps;
-use rh_words::{Reading, Ref, Request, Shape, Side, StepKind};
+use rh_tagword::plain_value;
+use rh_words::{Reading, Request, Shape, Side, StepKind};
 
 /// Which step of a worker that looks at a cell is next. What it needs is in its machine.
 #[derive(Clone, Copy)]
@@ -38,23 +40,17 @@ pub enum Sight {
     Spent,
 }
 
-/// What else than a value stands in a cell.
-#[derive(Clone, Copy)]
-pub enum Met {
-    Mark(Ref),
-    Desc(Ref),
-}
-
 /// What a Read of a cell saw there.
 #[derive(Clone, Copy)]
 pub enum Seen {
     /// This plain word.
     Value(u64),
-    /// What a machine goes on from (`Machine::meet`).
-    Other(Met),
+    /// This word, of a mark or a descriptor: a machine goes on from it (`Machine::meet`).
+    Other(u64),
 }
 
-/// Reads a cell, with no machine: who sees a value needs none.
+/// Reads a cell, with no machine: who sees a value needs none, and asks no more of the word than
+/// whether it is plain.
 #[inline(always)]
 pub fn read_cell<T: Steps>(shape: &Shape, table: &mut T, side: &mut Side, cell: usize) -> Seen
     requires { MayLook T.shows T.serves shape.now cell Looking.Read table.old side.old.known.view }
@@ -62,10 +58,9 @@ pub fn read_cell<T: Steps>(shape: &Shape, table: &mut T, side: &mut Side, cell: 
         (looked_at result cell) table.new side.new.known.view }
 {
     let word = table.make(shape, side, Request::Read(Reading::Cell(cell)));
-    match what_stands(word) {
-        CellContent::Value => Seen::Value(word),
-        CellContent::Mark(mark) => Seen::Other(Met::Mark(mark)),
-        CellContent::Desc(desc) => Seen::Other(Met::Desc(desc)),
+    match plain_value(word) {
+        Some(_) => Seen::Value(word),
+        None => Seen::Other(word),
     }
 }
 
@@ -142,21 +137,22 @@ impl Machine {
     {
         match read_cell(shape, table, side, cell) {
             Seen::Value(word) => Sight::Sees(word),
-            Seen::Other(met) => Sight::On(self.meet(met, cell)),
+            Seen::Other(word) => Sight::On(self.meet(word, cell)),
         }
     }
 
-    /// From now on it goes by what was met in this cell.
+    /// From now on it goes by what this word says of its cell.
     #[inline(always)]
-    pub fn meet(&mut self, met: Met, cell: usize) -> Watch
-        ensures { looking_of result self.new ≡ looking_at met cell }
+    pub fn meet(&mut self, word: u64, cell: usize) -> Watch
+        ensures { looking_of result self.new ≡ looking_at (cell_in word) cell }
     {
-        match met {
-            Met::Mark(mark) => {
+        match what_stands(word) {
+            CellContent::Value => Watch::Read,
+            CellContent::Mark(mark) => {
                 self.settling = Settling::met(mark, cell);
                 Watch::Settle
             }
-            Met::Desc(desc) => {
+            CellContent::Desc(desc) => {
                 self.go_about(desc);
                 Watch::Help
             }

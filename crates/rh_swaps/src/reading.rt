@@ -2,6 +2,7 @@
 
 ghost use Rattle.std.specs.Prelude.{◌<◌};
 ghost use Rattle.rh_words.specs.Parts.{cell_count};
+ghost use Rattle.rh_words.specs.Words.{cell_in};
 ghost use Rattle.rh_helping.specs.Next.{Looking};
 ghost use Rattle.rh_helping.specs.Seen.{looking_at};
 ghost use Rattle.rh_helping.specs.Stepping.{MayLook};
@@ -9,7 +10,7 @@ ghost use Rattle.rh_shared.specs.Rests.{SeatRests};
 ghost use Rattle.rh_shared.specs.Sits.{Sits};
 ghost use Rattle.rh_swaps.specs.Swaps.{HasLookedAt, HasReadAtRest};
 
-use rh_helping::{Machine, Met, Seen, Sight, read_cell};
+use rh_helping::{Machine, Seen, Sight, read_cell};
 use rh_shared::{OnTable, Seat, Table};
 use rh_words::{Ref, Shape, Side};
 use std::sync::Wait;
@@ -43,11 +44,11 @@ fn look<R: Wait>(
 {
     match read_cell(shape, here, side, cell) {
         Seen::Value(word) => Some(word),
-        Seen::Other(met) => look_on(rt, shape, here, side, cell, met),
+        Seen::Other(word) => look_on(rt, shape, here, side, cell, word),
     }
 }
 
-/// Goes on from what was met there until a value stands there.
+/// Goes on from this word, by which no value stands there, until one does.
 #[cold]
 #[inline(never)]
 fn look_on<R: Wait>(
@@ -56,9 +57,9 @@ fn look_on<R: Wait>(
     here: &mut OnTable,
     side: &mut Side,
     cell: usize,
-    met: Met,
+    word: u64,
 ) -> Option<u64>
-    requires { MayLook Sits Sits shape.now cell (looking_at met cell) here.old
+    requires { MayLook Sits Sits shape.now cell (looking_at (cell_in word) cell) here.old
         side.old.known.view }
     ensures { HasLookedAt shape.now cell here.old side.old.known.view result here.new
         side.new.known.view }
@@ -67,7 +68,7 @@ fn look_on<R: Wait>(
         worker: side.worker,
         number: 0,
     });
-    let mut watch = machine.meet(met, cell);
+    let mut watch = machine.meet(word, cell);
     for _ in rt.forever() {
         match machine.look(watch, shape, here, side, cell) {
             Sight::On(next) => watch = next,
