@@ -19,7 +19,7 @@ use rh_carrier::Steps;
 use rh_tagword::State;
 use rh_words::{Reading, Request, Shape, Side, decided_word};
 
-pub(crate) struct Succeed;
+pub struct Succeed;
 
 impl<T: Steps> Stage<T> for Succeed {
     ghost at = { stage.Succeed };

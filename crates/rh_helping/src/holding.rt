@@ -12,7 +12,7 @@ use rh_carrier::Steps;
 use rh_words::{Reading, Ref, Request, Shape, Side, mark_word};
 
 /// Places the mark, and goes by what stood in the cell.
-pub(crate) struct Place;
+pub struct Place;
 
 impl<T: Steps> Stage<T> for Place {
     ghost at = { stage.Place };
@@ -95,7 +95,7 @@ impl<T: Steps> Stage<T> for Settle {
     }
 }
 
-pub(crate) struct MarkControl;
+pub struct MarkControl;
 
 impl<T: Steps> Stage<T> for MarkControl {
     ghost at = { stage.MarkControl };
@@ -136,7 +136,7 @@ impl<T: Steps> Stage<T> for MarkControl {
     }
 }
 
-pub(crate) struct Promote;
+pub struct Promote;
 
 impl<T: Steps> Stage<T> for Promote {
     ghost at = { stage.Promote };
@@ -204,7 +204,7 @@ impl<T: Steps> Stage<T> for Demote {
 /// Reads the control once the mark is settled. Whatever a Settle found, its placer owes the cell
 /// until it has released the descriptor there or read it as undecided: less would do in some cases,
 /// but then what is owed would depend on what was found.
-pub(crate) struct Recheck;
+pub struct Recheck;
 
 impl<T: Steps> Stage<T> for Recheck {
     ghost at = { stage.Recheck };

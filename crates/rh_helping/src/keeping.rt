@@ -8,12 +8,13 @@ ghost use Rattle.rh_words.specs.View.{OwnDesc};
 ghost use Rattle.rh_carrier.specs.Own.{KnowsOwn};
 ghost use Rattle.rh_carrier.specs.Relies.{Knows, Relies};
 ghost use Rattle.rh_helping.specs.Keeping.{IsKept, kept};
-ghost use Rattle.rh_helping.specs.Machine.{led, work_at, work_of};
+ghost use Rattle.rh_helping.specs.Machine.{work_at, work_of};
 ghost use Rattle.rh_helping.specs.Made.{HasMadeStep};
+ghost use Rattle.rh_helping.specs.Next.StageOutcome.{On};
 ghost use Rattle.rh_helping.specs.Requested.{requested};
 ghost use Rattle.rh_helping.specs.Work.{Leads, MayEnd, Stands, kind_of_work};
 
-use crate::machine::{At, Machine, Progress};
+use crate::machine::{At, Machine};
 use crate::mark_row::{write_mark_desc, write_mark_entry, write_mark_serial};
 use rh_carrier::Steps;
 use rh_words::{Part, Reading, Request, Shape, Side};
@@ -27,7 +28,7 @@ impl Machine {
         shape: &Shape,
         table: &mut T,
         side: &mut Side,
-    ) -> Progress
+    )
         requires relies { Relies T.shows T.serves shape.now table.old side.old.known.view }
         requires kept { IsKept (work_at at self.old) }
         requires stands { Stands shape.now side.old.known.view (work_at at self.old) }
@@ -35,13 +36,12 @@ impl Machine {
             (kind_of_work (work_at at self.old)) table.old
             side.old.known.view table.new side.new.known.view }
         ensures leads { (opens : Option OwnDesc) → KnowsOwn side.old.known.view opens
-            → Leads shape.now side.new.known.view opens (led result self.new) }
-        ensures ends { MayEnd side.new.known.view (work_at at self.old) (led result self.new) }
+            → Leads shape.now side.new.known.view opens (On (work_of self.new)) }
+        ensures ends { MayEnd side.new.known.view (work_at at self.old) (On (work_of self.new)) }
     {
         let request = self.kept_request(at, shape, side);
         let found = table.make(shape, side, request);
         self.keep(at, found);
-        Progress::On
     }
 
     /// The step that is asked for.

@@ -24,7 +24,7 @@ pub enum Ended {
 }
 
 /// Which step a machine makes next.
-#[derive(Clone, Copy)]
+#[derive(Clone, Copy, PartialEq, Eq)]
 pub enum At {
     /// Read of the descriptor's control.
     Control,

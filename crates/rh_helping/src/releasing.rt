@@ -15,7 +15,7 @@ use rh_words::{Request, Shape, Side};
 
 /// Releases an entry. With the last one the own descriptor is closed, if it is that one that was
 /// open.
-pub(crate) struct Release;
+pub struct Release;
 
 impl<T: Steps> Stage<T> for Release {
     ghost at = { stage.Release };

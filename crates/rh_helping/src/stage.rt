@@ -14,7 +14,7 @@ use crate::machine::{Machine, Progress};
 use rh_carrier::Steps;
 use rh_words::{Request, Shape, Side};
 
-pub(crate) trait Stage<T: Steps> {
+pub trait Stage<T: Steps> {
     ghost use Rattle.rh_helping.specs.declared.machine.At.{At};
 
     // Where the machine stands.

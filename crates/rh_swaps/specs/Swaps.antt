@@ -14,7 +14,9 @@ use Rattle.rh_helping.specs.Opening.{next_own}
 use Rattle.rh_helping.specs.Work.{HasEnded, FailsWithin}
 use Rattle.rh_shared.specs.Rests.{StaysAtRest}
 use Rattle.rh_shared.specs.Seats.{view_of}
-use Rattle.rh_shared.specs.Sits.{StaysTrusted}
+use Rattle.rh_helping.specs.Next.{Work}
+use Rattle.rh_helping.specs.Stepping.{MayGoOn}
+use Rattle.rh_shared.specs.Sits.{Sits, Stays, StaysTrusted}
 use Rattle.rh_shared.specs.declared.on_table.OnTable.{OnTable}
 use Rattle.rh_shared.specs.declared.seat.Seat.{Seat}
 use Rattle.rh_shared.specs.declared.table.Table.{Table}
@@ -45,6 +47,12 @@ pub record HasOpened (v : View) (own : OwnDesc) (next : View) : Type 0 where
   pub claims : next.side.claims ≡ v.side.claims
   pub knows : KnowsOwn next (Some own)
   pub owes : OwesNothing next
+
+-- The worker went on with its own open descriptor, and this is next.
+pub record GoesOn (z : Shape) (own : OwnDesc) (t : OnTable) (v : View) (w : Work) (then : OnTable) (next : View) : Type 0 where
+  pub may : MayGoOn Sits Sits z (Some own) w then next
+  pub stays : Stays t then
+  pub noted : HasNoted v next
 
 -- This own descriptor ended so, where it failed at one of its entries, and is released; the rule tells of that moment.
 pub record HasCarriedOut (z : Shape) (own : OwnDesc) (t : OnTable) (v : View) (k : Ended) (then : OnTable) (next : View) : Type 0 where

@@ -1,21 +1,26 @@
 //! An own K-CAS: its descriptor is opened, and carried out.
 
-ghost use Rattle.std.specs.Prelude.{◌≡◌, ◌⊎◌, Some};
+ghost use Rattle.std.specs.Prelude.{◌≡◌, ◌≢◌, ◌⊎◌, MatchOption, Some};
 ghost use Rattle.rh_rule.specs.Rest.{RuleTells};
 ghost use Rattle.rh_words.specs.Steps.{AreEntries};
 ghost use Rattle.rh_carrier.specs.Own.{KnowsOwn, OwesNothing};
+ghost use Rattle.rh_helping.specs.declared.machine.At.TheVariants as stage;
 ghost use Rattle.rh_helping.specs.Goal.{opened_by, own_of};
-ghost use Rattle.rh_helping.specs.Machine.{work_of};
+ghost use Rattle.rh_helping.specs.Keeping.{IsKept};
+ghost use Rattle.rh_helping.specs.Machine.{work_at, work_of};
 ghost use Rattle.rh_helping.specs.Opening.{MayOpen, next_own};
 ghost use Rattle.rh_helping.specs.Stepping.{MayGoOn};
 ghost use Rattle.rh_shared.specs.Rests.{SeatRests, StaysAtRest};
-ghost use Rattle.rh_swaps.specs.Swaps.{HasCarriedOut, HasNoRoom, HasOpened, Swaps};
+ghost use Rattle.rh_swaps.specs.Swaps.{GoesOn, HasCarriedOut, HasNoRoom, HasOpened, Swaps};
 ghost use Rattle.rh_swaps.specs.declared.swapping.Outcome.TheVariants.{Spent};
 ghost use Rattle.rh_shared.specs.Seats.{view_of};
 ghost use Rattle.rh_shared.specs.Sits.{Sits, StaysTrusted};
 ghost use Rattle.rh_carrier.specs.Relies.{Trusts};
 
-use rh_helping::{Ended, Machine, OpenDesc, Opening, Progress};
+use rh_helping::{
+    At, Ended, Machine, MarkControl, OpenDesc, Opening, Place, Progress, Promote, ReadControl,
+    Recheck, Release, Stage, Succeed,
+};
 use rh_layout::Entry;
 use rh_shared::{OnTable, Seat, Table};
 use rh_words::{Ref, Shape, Side};
@@ -107,16 +112,136 @@ pub fn carry_out<R: Wait>(
         worker: side.worker,
         number: own.number,
     });
-    for _ in rt.forever() {
-        match machine.step_fast(shape, here, side, own) {
-            Some(Progress::On) => {}
-            Some(Progress::Closed(ended)) => return ended,
-            // (an own descriptor is open)
-            Some(Progress::Over | Progress::Spent) => unreachable!(),
-            None => return carry_on_copy(rt, shape, here, side, own, &machine),
+    if !install(shape, here, side, own, &mut machine) {
+        return carry_on_copy(rt, shape, here, side, own, &machine);
+    }
+    match release(shape, here, side, own, &mut machine) {
+        Some(ended) => ended,
+        None => carry_on_copy(rt, shape, here, side, own, &machine),
+    }
+}
+
+/// Installs the entries and decides, by the steps of a worker that meets no other, in their order.
+/// Answers whether it came to the end: else another step is next.
+#[inline(always)]
+fn install(
+    shape: &Shape,
+    here: &mut OnTable,
+    side: &mut Side,
+    own: OpenDesc<'_>,
+    machine: &mut Machine,
+) -> bool
+    requires { MayGoOn Sits Sits shape.now (opened_by (Some own)) (work_of machine.old) here.old
+        side.old.known.view }
+    ensures { GoesOn shape.now (own_of own.entry) here.old side.old.known.view
+        (work_of machine.new) here.new side.new.known.view }
+{
+    go::<ReadControl>(At::Control, shape, here, side, own, machine);
+    for _ in 0..own.entries.len() {
+        if !install_entry(shape, here, side, own, machine) {
+            return false;
         }
     }
-    unreachable!()
+    go::<Succeed>(At::Succeed, shape, here, side, own, machine)
+}
+
+/// The same with the next entry.
+#[inline(always)]
+fn install_entry(
+    shape: &Shape,
+    here: &mut OnTable,
+    side: &mut Side,
+    own: OpenDesc<'_>,
+    machine: &mut Machine,
+) -> bool
+    requires { MayGoOn Sits Sits shape.now (opened_by (Some own)) (work_of machine.old) here.old
+        side.old.known.view }
+    ensures { GoesOn shape.now (own_of own.entry) here.old side.old.known.view
+        (work_of machine.new) here.new side.new.known.view }
+{
+    go_kept(At::MarkSerial, shape, here, side, own, machine);
+    go_kept(At::MarkDesc, shape, here, side, own, machine);
+    go_kept(At::MarkEntry, shape, here, side, own, machine);
+    go::<Place>(At::Place, shape, here, side, own, machine);
+    go::<MarkControl>(At::MarkControl, shape, here, side, own, machine);
+    go::<Promote>(At::Promote, shape, here, side, own, machine);
+    go::<Recheck>(At::Recheck, shape, here, side, own, machine)
+}
+
+/// Makes the step of this stage where it is the next one, and answers whether it was.
+#[inline(always)]
+fn go<'a, S: Stage<OnTable<'a>>>(
+    at: At,
+    shape: &Shape,
+    here: &mut OnTable<'a>,
+    side: &mut Side,
+    own: OpenDesc<'_>,
+    machine: &mut Machine,
+) -> bool
+    requires stage { at ≡ S.at }
+    requires goes { MayGoOn Sits Sits shape.now (opened_by (Some own)) (work_of machine.old)
+        here.old side.old.known.view }
+    requires at { at ≢ stage.Release }
+    ensures { GoesOn shape.now (own_of own.entry) here.old side.old.known.view
+        (work_of machine.new) here.new side.new.known.view }
+{
+    match machine.step_at::<_, S>(at, shape, here, side, own) {
+        Some(Progress::On) => true,
+        // (only a Release closes it)
+        Some(Progress::Closed(_)) => unreachable!(),
+        // (an own descriptor is open)
+        Some(Progress::Over | Progress::Spent) => unreachable!(),
+        None => false,
+    }
+}
+
+/// The same of a stage after which there is one next stage.
+#[inline(always)]
+fn go_kept(
+    at: At,
+    shape: &Shape,
+    here: &mut OnTable,
+    side: &mut Side,
+    own: OpenDesc<'_>,
+    machine: &mut Machine,
+) -> bool
+    requires stage { IsKept (work_at at machine.old) }
+    requires goes { MayGoOn Sits Sits shape.now (opened_by (Some own)) (work_of machine.old)
+        here.old side.old.known.view }
+    ensures { GoesOn shape.now (own_of own.entry) here.old side.old.known.view
+        (work_of machine.new) here.new side.new.known.view }
+{
+    machine.step_kept_at(at, shape, here, side)
+}
+
+/// Releases the entries of the decided descriptor, and answers how it ended; or none where another
+/// step is next.
+#[inline(always)]
+fn release(
+    shape: &Shape,
+    here: &mut OnTable,
+    side: &mut Side,
+    own: OpenDesc<'_>,
+    machine: &mut Machine,
+) -> Option<Ended>
+    requires { MayGoOn Sits Sits shape.now (opened_by (Some own)) (work_of machine.old) here.old
+        side.old.known.view }
+    ensures { MatchOption result
+        (GoesOn shape.now (own_of own.entry) here.old side.old.known.view (work_of machine.new)
+        here.new side.new.known.view)
+        (λ ended. HasCarriedOut shape.now (own_of own.entry) here.old side.old.known.view ended
+        here.new side.new.known.view) }
+{
+    for _ in 0..own.entries.len() {
+        match machine.step_at::<_, Release>(At::Release, shape, here, side, own) {
+            Some(Progress::On) => {}
+            Some(Progress::Closed(ended)) => return Some(ended),
+            // (an own descriptor is open)
+            Some(Progress::Over | Progress::Spent) => unreachable!(),
+            None => return None,
+        }
+    }
+    None
 }
 
 /// Goes on with it where another worker was met, apart and on copies: so the machine of who meets

@@ -90,7 +90,7 @@ pub(crate) fn swap<T: Steps>(
     };
     match worker
         .machine
-        .step_own(shape, table, &mut worker.side, open)
+        .step(shape, table, &mut worker.side, Some(open))
     {
         Progress::On => {
             worker.stage = KeyStage::Swap { number, plan };

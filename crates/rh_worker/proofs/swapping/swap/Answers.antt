@@ -5,8 +5,8 @@ use Rattle.rh_worker.proofs.Anew.{kept_alike, none_read}
 use Rattle.rh_worker.proofs.CloseStep.{does_same, failure_stays, opens_same, still_open, success_stays, swap_fails, swap_spends, swap_succeeds, swap_withdraws}
 use Rattle.rh_worker.proofs.swapping.swap.Goals as goal
 
-pub step_own-requires : goal.step_own-requires
-step_own-requires g c =
+pub step-requires : goal.step-requires
+step-requires g c =
     let h = c.requires.worker.stays in
     record { relies = c.requires.relies; own = opens_same _ c.args.number _ _ (ap (take c.args.plan.entries) c.deref.ensures.value) h.0; stands = h.1 }
 
@@ -74,23 +74,23 @@ pub returns-in-On-clause-anew : goal.returns-in-On-clause-anew
 returns-in-On-clause-anew g c before h =
     let w = c.args.worker.now in
     let z = c.args.shape.now in
-    none_read z before w.side.known.view c.step_own.new.side.known.view w.key w.buffer.seen.items 0 (kept_alike z w.side.known.view c.step_own.new.side.known.view c.in-On.ensures.made.reads) h
+    none_read z before w.side.known.view c.step.new.side.known.view w.key w.buffer.seen.items 0 (kept_alike z w.side.known.view c.step.new.side.known.view c.in-On.ensures.made.reads) h
 
 pub returns-in-Closed-Succeeded-clause-anew : goal.returns-in-Closed-Succeeded-clause-anew
 returns-in-Closed-Succeeded-clause-anew g c before h =
     let w = c.args.worker.now in
     let z = c.args.shape.now in
-    none_read z before w.side.known.view c.step_own.new.side.known.view w.key w.buffer.seen.items 0 (kept_alike z w.side.known.view c.step_own.new.side.known.view c.in-Closed-Succeeded.ensures.made.reads) h
+    none_read z before w.side.known.view c.step.new.side.known.view w.key w.buffer.seen.items 0 (kept_alike z w.side.known.view c.step.new.side.known.view c.in-Closed-Succeeded.ensures.made.reads) h
 
 pub returns-in-Closed-Withdrawn-clause-anew : goal.returns-in-Closed-Withdrawn-clause-anew
 returns-in-Closed-Withdrawn-clause-anew g c before h =
     let w = c.args.worker.now in
     let z = c.args.shape.now in
-    none_read z before w.side.known.view c.step_own.new.side.known.view w.key w.buffer.seen.items 0 (kept_alike z w.side.known.view c.step_own.new.side.known.view c.in-Closed-Withdrawn.ensures.made.reads) h
+    none_read z before w.side.known.view c.step.new.side.known.view w.key w.buffer.seen.items 0 (kept_alike z w.side.known.view c.step.new.side.known.view c.in-Closed-Withdrawn.ensures.made.reads) h
 
 pub returns-in-Closed-Failed-clause-anew : goal.returns-in-Closed-Failed-clause-anew
 returns-in-Closed-Failed-clause-anew g c before h =
     let w = c.args.worker.now in
     let z = c.args.shape.now in
-    subst (λ (p : KeyStage). HasScanned z before c.step_own.new.side.known.view w.key w.buffer.seen.items (seen_at p)) (sym c.reading-worker.ensures)
-    (none_read z before w.side.known.view c.step_own.new.side.known.view w.key w.buffer.seen.items 0 (kept_alike z w.side.known.view c.step_own.new.side.known.view c.in-Closed-Failed.ensures.made.reads) h)
+    subst (λ (p : KeyStage). HasScanned z before c.step.new.side.known.view w.key w.buffer.seen.items (seen_at p)) (sym c.reading-worker.ensures)
+    (none_read z before w.side.known.view c.step.new.side.known.view w.key w.buffer.seen.items 0 (kept_alike z w.side.known.view c.step.new.side.known.view c.in-Closed-Failed.ensures.made.reads) h)
