@@ -13,7 +13,7 @@ use Rattle.rh_numbers.specs.declared.limits.TheConstants.{MAX_BYTES}
 use Rattle.rh_lists.specs.declared.fault.ListFault.{ListFault}
 use Rattle.rh_lists.specs.declared.fault.ListFault.TheVariants.{Text, Keys}
 use Rattle.rh_lists.specs.Lists.{HasBytes, is_list_silent, is_text_silent}
-use Rattle.rh_pieces.specs.Pieces.{keys_in}
+use Rattle.rh_cutting.specs.Pieces.{keys_in}
 use Rattle.rh_checks.specs.declared.found.Found.{Found}
 use Rattle.rh_checks.specs.Lines.{Findings, findings, text_findings}
 use Rattle.rh_checks.specs.Walk.{shown_as}

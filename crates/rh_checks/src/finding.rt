@@ -8,7 +8,7 @@ use rh_bytes::{Counted, Filled, Progress, fill_front};
 use rh_key_files::{Version, read_pieces};
 use rh_lists::ListFault;
 use rh_numbers::TextFault;
-use rh_pieces::KeyList;
+use rh_cutting::KeyList;
 use std::alloc::Global;
 use std::io::Read;
 

@@ -4,7 +4,7 @@ ghost use Rattle.std.specs.Prelude.{◌≡◌};
 ghost use Rattle.rh_checks.specs.Texts.{words_of};
 
 use rh_numbers::{BadLine, Excerpt};
-use rh_pieces::KeyList;
+use rh_cutting::KeyList;
 use std::fmt;
 
 /// A bad line of a text, as it is shown.

@@ -2,13 +2,13 @@
 
 ghost use Rattle.std.specs.Prelude.{◌≡◌, ◌++◌, ◌∷◌, [], ℕ, List, IfOk, Some, length};
 ghost use Rattle.std.specs.List.{flat_map};
-ghost use Rattle.rh_pieces.specs.Pieces.{keys_in};
+ghost use Rattle.rh_cutting.specs.Pieces.{keys_in};
 ghost use Rattle.rh_checks.specs.Sums.{AreSums, IsSpan};
 
 use rh_bytes::{Counted, Progress};
 use rh_combine_workers::{Form, How, Wanted, write_combined};
 use rh_forks::Team;
-use rh_pieces::KeyList;
+use rh_cutting::KeyList;
 use std::alloc::AllocError;
 use std::io;
 use std::thread::Threads;

@@ -6,7 +6,7 @@ ghost use Rattle.rh_layout.specs.Key.{IsKey};
 use crate::found::{Found, ShownLine};
 use crate::limits::SHOWN_LINES;
 use rh_numbers::{BadLine, Excerpt, LineSoFar};
-use rh_pieces::KeyList;
+use rh_cutting::KeyList;
 use std::alloc::{AllocError, Global};
 
 /// What was found in a text so far, and how its line goes on.

@@ -7,7 +7,7 @@ use rh_bytes::{Counted, Progress};
 use rh_combine_workers::*;
 use rh_faulty::{FaultyWriter, Refusal};
 use rh_forks::{Team, Workers};
-use rh_pieces::KeyList;
+use rh_cutting::KeyList;
 use std::alloc::{AllocError, Global};
 use std::test::*;
 

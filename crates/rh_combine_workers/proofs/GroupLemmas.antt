@@ -7,23 +7,23 @@ use Rattle.std.proofs.lemmas.List.{length-append}
 use Rattle.std.proofs.lemmas.List.Sums.{sum_by-cons}
 use Rattle.rh_layout.specs.Key.{IsKey}
 use Rattle.rh_layout.specs.declared.limits.TheConstants.{MAX_KEY}
-use Rattle.rh_pieces.specs.Pieces.{keys_in}
-use Rattle.rh_pieces.specs.declared.list.KeyList.{KeyList}
+use Rattle.rh_cutting.specs.Pieces.{keys_in}
+use Rattle.rh_cutting.specs.declared.list.KeyList.{KeyList}
 use Rattle.rh_combine.specs.declared.how.How.{How}
 use Rattle.rh_layout.specs.Range.{within}
 use Rattle.rh_combine.specs.Combine.{AllWithin, answer}
 use Rattle.rh_combine.proofs.RangeLaws.{of_all, of_two}
 use Rattle.rh_combine.proofs.RangeLemmas.{all_keys, within-none}
 use Rattle.rh_combine_workers.specs.declared.group.Group.{Group}
-use Rattle.rh_borders.specs.declared.whole.CutLists.{CutLists}
+use Rattle.rh_cutting.specs.declared.whole.CutLists.{CutLists}
 use Rattle.rh_combine.specs.declared.wanted.Wanted.{Wanted}
-use Rattle.rh_borders.specs.Borders.{AreBorders, between}
-use Rattle.rh_borders.specs.Cut.{AreLists}
+use Rattle.rh_cutting.specs.Borders.{AreBorders, between}
+use Rattle.rh_cutting.specs.Cut.{AreLists}
 use Rattle.rh_combine_workers.specs.Groups.{IsGroup, IsRound, TellsGroup, group_edge, parts_of}
 use Rattle.rh_combine_workers.specs.Spelled.{spelled}
 use Rattle.rh_combine_workers.proofs.SpelledLemmas.{spelled-append, spelled-none}
-use Rattle.rh_borders.proofs.BorderLemmas.{rise_to}
-use Rattle.rh_borders.proofs.CutLemmas.{as_many, one_done}
+use Rattle.rh_cutting.proofs.BorderLemmas.{rise_to}
+use Rattle.rh_cutting.proofs.CutLemmas.{as_many, one_done}
 
 module _ (how : How) (lists : List (List ℕ)) where
   abbrev of : (a c : ℕ) → List ℕ

@@ -11,9 +11,9 @@ use Rattle.rh_combine.specs.Combine.{answer}
 use Rattle.rh_combine.proofs.RangeLaws.{of_two}
 use Rattle.rh_combine.proofs.RangeLemmas.{within-none}
 use Rattle.rh_combine.specs.declared.wanted.Form.{Form}
-use Rattle.rh_borders.specs.Borders.{AreBorders, between}
+use Rattle.rh_cutting.specs.Borders.{AreBorders, between}
 use Rattle.rh_combine_workers.specs.Spelled.{spelled}
-use Rattle.rh_borders.proofs.BorderLemmas.{rise_to}
+use Rattle.rh_cutting.proofs.BorderLemmas.{rise_to}
 use Rattle.rh_combine_workers.proofs.SpelledLemmas.{spelled-append, spelled-none}
 
 appends_nothing : (a : Option (List ℕ)) → Appends a a []

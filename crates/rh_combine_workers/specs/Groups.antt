@@ -4,9 +4,9 @@ use Rattle.std.specs.List.{flat_map}
 use Rattle.rh_combine.specs.Combine.{answer}
 use Rattle.rh_combine_workers.specs.declared.group.Group.{Group}
 use Rattle.rh_combine.specs.declared.wanted.Wanted.{Wanted}
-use Rattle.rh_borders.specs.declared.whole.CutLists.{CutLists}
-use Rattle.rh_borders.specs.Borders.{between}
-use Rattle.rh_borders.specs.Cut.{AreLists}
+use Rattle.rh_cutting.specs.declared.whole.CutLists.{CutLists}
+use Rattle.rh_cutting.specs.Borders.{between}
+use Rattle.rh_cutting.specs.Cut.{AreLists}
 use Rattle.rh_combine_workers.specs.Spelled.{spelled}
 
 -- the part with which a group begins, and the group before it ends: groups of so many parts from the first one on, of so many in all

@@ -2,9 +2,9 @@
 use Rattle.std.specs.Prelude.{◌≡◌, ℕ, ◌-◌, ◌^◌, min, List, length, Option, Result, IfOk}
 use Rattle.rh_bytes.specs.Counting.{CountsFault, Writes, inner_of}
 use Rattle.rh_bytes.specs.declared.counted.Counted.{Counted}
-use Rattle.rh_borders.specs.Borders.{between}
-use Rattle.rh_borders.specs.Cut.{AreLists}
-use Rattle.rh_borders.specs.declared.whole.CutLists.{CutLists}
+use Rattle.rh_cutting.specs.Borders.{between}
+use Rattle.rh_cutting.specs.Cut.{AreLists}
+use Rattle.rh_cutting.specs.declared.whole.CutLists.{CutLists}
 use Rattle.rh_combine.specs.Combine.{answer}
 use Rattle.rh_combine.specs.declared.how.How.{How}
 use Rattle.rh_combine_workers.specs.declared.fault.CombineFault.{CombineFault}

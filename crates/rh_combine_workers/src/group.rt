@@ -1,12 +1,12 @@
 //! Groups of consecutive parts, worked out side by side.
 
 ghost use Rattle.std.specs.Prelude.{◌≡◌, ℕ, List, ◌+◌, ◌-◌, ◌^◌, ◌<◌, ◌≤◌, IfOk, Ok, length, map, min, slice_index_or, sum_by};
-ghost use Rattle.rh_borders.specs.Cut.{AreLists};
+ghost use Rattle.rh_cutting.specs.Cut.{AreLists};
 ghost use Rattle.rh_combine_workers.specs.Groups.{IsGroup, IsRound, TellsGroup, group_edge, parts_of};
 
 use crate::form::spell;
 use crate::part::of_part;
-use rh_borders::CutLists;
+use rh_cutting::CutLists;
 use rh_combine::Wanted;
 use rh_forks::{Team, map_indices};
 use std::alloc::{AllocError, Global};

@@ -8,7 +8,7 @@
 //! ```
 //!
 //! A list comes in pieces, as they were read. The lists are cut into parts at borders
-//! (`rh_borders`), so that each part is worked out by itself, by `rh_combine`. Groups of
+//! (`rh_cutting`), so that each part is worked out by itself, by `rh_combine`. Groups of
 //! consecutive parts are worked out side by side, and written in their order.
 //!
 //! Proved:

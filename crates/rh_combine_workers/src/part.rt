@@ -2,10 +2,10 @@
 
 ghost use Rattle.std.specs.Prelude.{◌≡◌, ℕ, List, ◌+◌, ◌<◌, All, IfOk, length, map};
 ghost use Rattle.rh_combine.specs.Combine.{answer};
-ghost use Rattle.rh_borders.specs.Borders.{between, part_of};
-ghost use Rattle.rh_borders.specs.Cut.{AreLists};
+ghost use Rattle.rh_cutting.specs.Borders.{between, part_of};
+ghost use Rattle.rh_cutting.specs.Cut.{AreLists};
 
-use rh_borders::{CutLists, Parts};
+use rh_cutting::{CutLists, Parts};
 use rh_combine::{How, combine};
 use std::alloc::{AllocError, Global};
 

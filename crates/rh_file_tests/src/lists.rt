@@ -8,7 +8,7 @@ use rh_forks::{Team, Workers};
 use rh_key_files::KeyFault;
 use rh_lists::*;
 use rh_numbers::TextFault;
-use rh_pieces::KeyList;
+use rh_cutting::KeyList;
 use std::alloc::Global;
 use std::test::*;
 use std::thread::Threads;

@@ -1,6 +1,6 @@
 //! Work that is shared out to threads, while the thread that starts them waits.
 //!
-//! `rh_lists`, `rh_borders` and `rh_combine_workers` share their work so, each to a `Team`: so many
+//! `rh_lists`, `rh_cutting` and `rh_combine_workers` share their work so, each to a `Team`: so many
 //! workers, what starts their threads, and where what they make is held.
 //!
 //! The calls of std have the same contracts, and there the caller works too. But Linux puts some

@@ -2,7 +2,7 @@
 //! keys.
 //!
 //! A cell holds 0 where it is empty, else its key plus 1. `rh_probe`, `rh_edit`, `rh_ledger`,
-//! `rh_tagword`, `rh_key_files` and `rh_borders` stand on it; every crate may use its definitions.
+//! `rh_tagword`, `rh_key_files` and `rh_cutting` stand on it; every crate may use its definitions.
 //!
 //! ```text
 //! home(3, 17)                                 // 4: where the search for 17 begins, in 8 cells

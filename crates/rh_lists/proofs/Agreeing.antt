@@ -3,8 +3,8 @@ use Rattle.std.proofs.Common.{◌≡◌, ℕ, true, List, Option, Some, None, Re
 use Rattle.std.proofs.lemmas.Bool.{cases_Bool}
 use Rattle.rh_bytes.proofs.Parsed.{same_value}
 use Rattle.rh_lists.specs.declared.fault.ListFault.{ListFault}
-use Rattle.rh_pieces.specs.declared.list.KeyList.{KeyList}
-use Rattle.rh_pieces.specs.Pieces.{keys_in}
+use Rattle.rh_cutting.specs.declared.list.KeyList.{KeyList}
+use Rattle.rh_cutting.specs.Pieces.{keys_in}
 use Rattle.rh_lists.specs.Lists.{Agree, ReadsKeyList, is_list_silent, list_said}
 
 abbrev Told : Type 0

@@ -12,8 +12,8 @@ use Rattle.rh_numbers.specs.declared.line_so_far.LineSoFar.TheVariants.{Head}
 use Rattle.rh_numbers.specs.Chunks.{ReadsTo, ended, goes_on, in_line}
 use Rattle.rh_numbers.specs.Reading.{Said, text_said, with_line}
 use Rattle.rh_numbers.proofs.Spelling.{at_end}
-use Rattle.rh_pieces.specs.declared.list.KeyList.{KeyList}
-use Rattle.rh_pieces.specs.Pieces.{keys_in}
+use Rattle.rh_cutting.specs.declared.list.KeyList.{KeyList}
+use Rattle.rh_cutting.specs.Pieces.{keys_in}
 use Rattle.rh_lists.specs.Parts.{TellsText, Refuses}
 
 module _ (bytes keys : List ℕ) (lines : ℕ) (end : ChunkEnd) (read : ReadsTo Head bytes keys lines end) where

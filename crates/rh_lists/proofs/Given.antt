@@ -3,10 +3,10 @@ use Rattle.std.proofs.Common.{◌≡◌, ◌∙◌, ℕ, ◌+◌, ◌<◌, arith
 use Rattle.std.proofs.lemmas.List.{get_or-map, length-map, take_more}
 use Rattle.std.proofs.lemmas.Option.{slice_get-map, slice_get_read}
 use Rattle.rh_shelf.specs.Shelf.{Files, Finds}
-use Rattle.rh_pieces.specs.Pieces.{keys_in}
+use Rattle.rh_cutting.specs.Pieces.{keys_in}
 use Rattle.rh_lists.specs.Lists.{ReadsKeyList, list_said}
 use Rattle.rh_lists.specs.declared.fault.ListFault.{ListFault}
-use Rattle.rh_pieces.specs.declared.list.KeyList.{KeyList}
+use Rattle.rh_cutting.specs.declared.list.KeyList.{KeyList}
 use Rattle.rh_lists.specs.Blanks.{skipping}
 use Rattle.rh_lists.specs.Files.{AreNumbers, GiveEach, GivesNumbers, GivesBy, is_input, without_heads}
 

@@ -10,9 +10,9 @@ use Rattle.rh_numbers.specs.declared.chunk.ChunkEnd.TheVariants.{Open, Bad}
 use Rattle.rh_numbers.specs.declared.fault.TextFault.{TextFault}
 use Rattle.rh_numbers.specs.declared.line_so_far.LineSoFar.TheVariants.{Head}
 use Rattle.rh_numbers.specs.Reading.{text_said}
-use Rattle.rh_pieces.specs.declared.list.KeyList.{KeyList}
+use Rattle.rh_cutting.specs.declared.list.KeyList.{KeyList}
 use Rattle.rh_lists.specs.declared.part.ListPart.{ListPart}
-use Rattle.rh_pieces.specs.Pieces.{keys_in}
+use Rattle.rh_cutting.specs.Pieces.{keys_in}
 use Rattle.rh_lists.specs.Lists.{HasBytes, HasNoFault, TakesNoFault}
 use Rattle.rh_lists.specs.Parts.{IsOpen, IsReadTo, TellsText, ReadsTextList, Refuses}
 

@@ -12,8 +12,8 @@ use Rattle.rh_key_files.specs.Reading.{KeysFail, ReadsKeys, keys_behind, long_fi
 use Rattle.rh_numbers.specs.declared.fault.TextFault.{TextFault}
 use Rattle.rh_numbers.specs.Reading.{Said, text_said}
 use Rattle.rh_lists.specs.declared.fault.ListFault.TheVariants.{Text, Keys}
-use Rattle.rh_pieces.specs.declared.list.KeyList.{KeyList}
-use Rattle.rh_pieces.specs.Pieces.{keys_in}
+use Rattle.rh_cutting.specs.declared.list.KeyList.{KeyList}
+use Rattle.rh_cutting.specs.Pieces.{keys_in}
 use Rattle.rh_lists.specs.Lists.{ReadsKeyList, file_or_text, is_list_silent, is_text_silent, list_said, of_file, of_text}
 use Rattle.rh_lists.specs.Parts.{ReadsTextList, Refuses}
 

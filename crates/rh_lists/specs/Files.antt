@@ -11,12 +11,12 @@ use Rattle.rh_shelf.specs.Shelf.{CountsReads, Files, Finds, Lacks, ShelfState}
 use Rattle.rh_shelf.specs.declared.shelf.ShelfFault.{ShelfFault}
 use Rattle.rh_shelf.specs.declared.shelf.ShelfFault.TheVariants.{Missing, Memory, Write}
 use Rattle.rh_key_files.specs.Reading.{BeginsWithLongHeader, TakesGoodKeys, long_header_at}
-use Rattle.rh_pieces.specs.Pieces.{keys_in}
+use Rattle.rh_cutting.specs.Pieces.{keys_in}
 use Rattle.rh_lists.specs.Lists.{HasBytes, TakesGoodLines, is_list_silent, list_said}
 use Rattle.rh_lists.specs.Blanks.{skipping}
 use Rattle.rh_lists.specs.declared.fault.ListFault.{ListFault}
 use Rattle.rh_lists.specs.declared.fault.ListFault.TheVariants.{Text, Keys}
-use Rattle.rh_pieces.specs.declared.list.KeyList.{KeyList}
+use Rattle.rh_cutting.specs.declared.list.KeyList.{KeyList}
 use Rattle.rh_lists.specs.declared.fault.FileFault.{FileFault}
 use Rattle.rh_lists.specs.declared.fault.FileFault.TheVariants.{Shelf, List as InList}
 

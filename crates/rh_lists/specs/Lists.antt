@@ -16,8 +16,8 @@ use Rattle.rh_numbers.specs.declared.limits.TheConstants.{MAX_BYTES}
 use Rattle.rh_numbers.specs.Reading.{Said, SayOnly, text_said}
 use Rattle.rh_lists.specs.declared.fault.ListFault.{ListFault}
 use Rattle.rh_lists.specs.declared.fault.ListFault.TheVariants.{Text, Keys}
-use Rattle.rh_pieces.specs.declared.list.KeyList.{KeyList}
-use Rattle.rh_pieces.specs.Pieces.{keys_in}
+use Rattle.rh_cutting.specs.declared.list.KeyList.{KeyList}
+use Rattle.rh_cutting.specs.Pieces.{keys_in}
 
 -- ---- bytes
 

@@ -12,9 +12,9 @@ use Rattle.rh_numbers.specs.declared.line_so_far.LineSoFar.TheVariants.{Head, St
 use Rattle.rh_numbers.specs.declared.limits.TheConstants.{MAX_BYTES}
 use Rattle.rh_numbers.specs.Chunks.{EndsLine, ReadsTo, last_of}
 use Rattle.rh_numbers.specs.Reading.{Said, text_said}
-use Rattle.rh_pieces.specs.declared.list.KeyList.{KeyList}
+use Rattle.rh_cutting.specs.declared.list.KeyList.{KeyList}
 use Rattle.rh_lists.specs.declared.part.ListPart.{ListPart}
-use Rattle.rh_pieces.specs.Pieces.{keys_in}
+use Rattle.rh_cutting.specs.Pieces.{keys_in}
 use Rattle.rh_lists.specs.Lists.{HasBytes, HasNoFault, TakesNoFault, is_text_silent}
 
 -- Where the line has said this so far, these bytes are read to the part, whatever stands before them and comes after them.

@@ -4,7 +4,7 @@ ghost use Rattle.std.specs.Prelude.{List, Option, Some, ℕ};
 ghost use Rattle.rh_lists.specs.Lists.{Agree, ReadsKeyList};
 
 use crate::fault::ListFault;
-use rh_pieces::KeyList;
+use rh_cutting::KeyList;
 
 /// What two readings of the same bytes answer is the same, whoever reads them, and in whatever
 /// blocks: the same keys, or the same fault, but for want of memory, failed reads and texts that

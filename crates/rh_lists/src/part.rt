@@ -7,12 +7,12 @@ ghost use Rattle.rh_numbers.specs.Chunks.{EndsLine};
 ghost use Rattle.rh_numbers.specs.Reading.{text_said};
 ghost use Rattle.rh_numbers.specs.declared.line_so_far.LineSoFar.{LineSoFar};
 ghost use Rattle.rh_numbers.specs.declared.line_so_far.LineSoFar.TheVariants.{Head};
-ghost use Rattle.rh_pieces.specs.Pieces.{keys_in};
+ghost use Rattle.rh_cutting.specs.Pieces.{keys_in};
 ghost use Rattle.rh_lists.specs.Lists.{OfHeldBytes};
 ghost use Rattle.rh_lists.specs.Parts.{IsOpen, IsPartOf, IsReadTo, TellsText, Refuses, end_of_part};
 
 use rh_numbers::{Chunk, ChunkEnd, LineSoFar, TextFault, read_chunk};
-use rh_pieces::KeyList;
+use rh_cutting::KeyList;
 use std::alloc::{AllocError, Global};
 
 /// What a part of a text says, up to its first bad line.

@@ -1,7 +1,7 @@
 //! The lists at several paths are read, one after the other.
 
 ghost use Rattle.std.specs.Prelude.{◌≡◌, IfErr, length, map, string_bytes};
-ghost use Rattle.rh_pieces.specs.Pieces.{keys_in};
+ghost use Rattle.rh_cutting.specs.Pieces.{keys_in};
 ghost use Rattle.rh_lists.specs.Files.{AnswersFile, AnswersPath, seen, tells_failed_read};
 ghost use Rattle.rh_lists.specs.Paths.{AnswersPaths, IsInside};
 
@@ -13,7 +13,7 @@ use rh_bytes::{Counted, Progress};
 use rh_forks::Team;
 use rh_key_files::KeyFault;
 use rh_numbers::TextFault;
-use rh_pieces::KeyList;
+use rh_cutting::KeyList;
 use rh_shelf::Lender;
 use std::io::Read;
 use std::thread::Threads;

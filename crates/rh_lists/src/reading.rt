@@ -10,7 +10,7 @@ use rh_bytes::{Counted, Filled, Progress, fill_front};
 use rh_forks::Team;
 use rh_key_files::{Version, read_pieces};
 use rh_numbers::TextFault;
-use rh_pieces::KeyList;
+use rh_cutting::KeyList;
 use std::io::Read;
 use std::thread::Threads;
 

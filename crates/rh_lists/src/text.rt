@@ -15,7 +15,7 @@ use crate::workers::read_part;
 use rh_bytes::{Counted, Filled, Progress, fill_front};
 use rh_forks::Team;
 use rh_numbers::{LineSoFar, MAX_BYTES, TextFault};
-use rh_pieces::KeyList;
+use rh_cutting::KeyList;
 use std::alloc::Global;
 use std::io::Read;
 use std::mem;

@@ -1,8 +1,8 @@
 use Rattle.std.proofs.Common.{◌≡◌, ℕ, ◌-◌, ◌^◌, List, length}
 use Rattle.std.specs.Prelude.{min}
 use Rattle.rh_combine.specs.Combine.{answer}
-use Rattle.rh_borders.specs.Borders.{between}
-use Rattle.rh_borders.specs.Cut.{AreLists}
+use Rattle.rh_cutting.specs.Borders.{between}
+use Rattle.rh_cutting.specs.Cut.{AreLists}
 use Rattle.rh_combine_workers.specs.Spelled.{spelled}
 use Rattle.rh_combine_workers.proofs.group.group_of.Given as goal
 

@@ -1,6 +1,6 @@
 use Rattle.std.proofs.Common.{◌≡◌, take}
 use Rattle.std.specs.Prelude.{map}
-use Rattle.rh_borders.specs.Borders.{part_of}
+use Rattle.rh_cutting.specs.Borders.{part_of}
 use Rattle.rh_combine_workers.proofs.part.all_gathered.Given as goal
 
 abbrev pub invariant-loop-pieces : goal.invariant-loop-pieces

@@ -1,5 +1,5 @@
 use Rattle.std.proofs.Common.{◌≡◌, take}
-use Rattle.rh_borders.specs.Borders.{part_of}
+use Rattle.rh_cutting.specs.Borders.{part_of}
 use Rattle.rh_combine_workers.proofs.part.gather.Given as goal
 
 abbrev pub invariant-loop-parts : goal.invariant-loop-parts

@@ -6,9 +6,9 @@ use Rattle.rh_layout.specs.Range.{stands}
 use Rattle.rh_combine.specs.Combine.{answer}
 use Rattle.rh_combine.proofs.RangeLaws.{answer_of}
 use Rattle.rh_combine.proofs.RangeLemmas.{are_keys, range_within}
-use Rattle.rh_borders.specs.Borders.{part_of}
-use Rattle.rh_borders.proofs.BorderLemmas.{all_keys_below}
-use Rattle.rh_borders.proofs.CutLemmas.{of_lists, parts_inside}
+use Rattle.rh_cutting.specs.Borders.{part_of}
+use Rattle.rh_cutting.proofs.BorderLemmas.{all_keys_below}
+use Rattle.rh_cutting.proofs.CutLemmas.{of_lists, parts_inside}
 use Rattle.rh_combine_workers.proofs.part.of_part.Goals as goal
 
 pub all_gathered-requires : goal.all_gathered-requires

@@ -4,7 +4,7 @@ use Rattle.std.proofs.lemmas.Result.{IfOk-weaker}
 use Rattle.rh_bytes.specs.Counting.{Writes, inner_of}
 use Rattle.rh_combine.proofs.RangeLemmas.{answer-within}
 use Rattle.rh_layout.specs.declared.limits.TheConstants.{MAX_KEY}
-use Rattle.rh_pieces.specs.Pieces.{keys_in}
+use Rattle.rh_cutting.specs.Pieces.{keys_in}
 use Rattle.rh_combine_workers.specs.Spelled.{spelled}
 use Rattle.rh_combine_workers.proofs.GroupLemmas.{all_parts, keys_of_lists}
 use Rattle.rh_combine_workers.proofs.writing.write_combined.Goals as goal

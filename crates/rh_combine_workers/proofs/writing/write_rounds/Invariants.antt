@@ -3,8 +3,8 @@ use Rattle.std.specs.Prelude.{min}
 use Rattle.std.specs.Io.KnownBytes.{Appends}
 use Rattle.rh_bytes.specs.Counting.{failures_of, inner_of}
 use Rattle.rh_combine.specs.Combine.{answer}
-use Rattle.rh_borders.specs.Borders.{between}
-use Rattle.rh_borders.specs.Cut.{AreLists}
+use Rattle.rh_cutting.specs.Borders.{between}
+use Rattle.rh_cutting.specs.Cut.{AreLists}
 use Rattle.rh_combine_workers.specs.Groups.{IsRound, group_edge, parts_of}
 use Rattle.rh_combine_workers.specs.Spelled.{spelled}
 use Rattle.rh_combine_workers.proofs.writing.write_rounds.Given as goal

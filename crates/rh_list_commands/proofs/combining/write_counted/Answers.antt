@@ -1,7 +1,7 @@
 use Rattle.std.proofs.Common.{Err, Ok, Result, map, rules}
 use Rattle.std.proofs.lemmas.Result.{err_from_is_err_and}
 use Rattle.rh_combine.specs.Combine.{answer}
-use Rattle.rh_pieces.specs.Pieces.{keys_in}
+use Rattle.rh_cutting.specs.Pieces.{keys_in}
 use Rattle.rh_list_commands.proofs.Written.{counted, not_counted, told_front}
 use Rattle.rh_list_commands.proofs.combining.write_counted.Goals as goal
 

@@ -5,7 +5,7 @@ use Rattle.rh_combine_workers.specs.Spelled.{spelled}
 use Rattle.rh_combine.specs.declared.wanted.Form.TheVariants.{Packed}
 use Rattle.rh_key_files.specs.KeyFile.{header, spelling}
 use Rattle.rh_key_files.specs.declared.version.Version.TheVariants.{Second}
-use Rattle.rh_pieces.specs.Pieces.{keys_in}
+use Rattle.rh_cutting.specs.Pieces.{keys_in}
 use Rattle.rh_list_commands.proofs.Written.{packed}
 use Rattle.rh_list_commands.proofs.combining.write_packed.Goals as goal
 

@@ -1,7 +1,7 @@
 use Rattle.std.proofs.Common.{◌∙◌, ◌<◌, length, ◌++◌, ◌∷◌, [], ap, map, rules, string_bytes, subst, sym, take}
 use Rattle.std.proofs.lemmas.List.{map-append}
 use Rattle.rh_bytes.specs.Counting.{Rose, failures_of, inner_of}
-use Rattle.rh_pieces.specs.Pieces.{keys_in}
+use Rattle.rh_cutting.specs.Pieces.{keys_in}
 use Rattle.rh_lists.specs.Files.{BlamesAt, GiveEach, GivesNumbers, HasFault, seen}
 use Rattle.rh_lists.proofs.Given.{inside_too, next_path, one_more, path_at}
 use Rattle.rh_lists.proofs.paths.read_paths.Goals as goal

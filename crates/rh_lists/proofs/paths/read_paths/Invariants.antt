@@ -1,6 +1,6 @@
 use Rattle.std.proofs.Common.{◌≡◌, map, string_bytes, take}
 use Rattle.rh_bytes.specs.Counting.{failures_of, inner_of}
-use Rattle.rh_pieces.specs.Pieces.{keys_in}
+use Rattle.rh_cutting.specs.Pieces.{keys_in}
 use Rattle.rh_lists.specs.Files.{GiveEach, seen}
 use Rattle.rh_lists.proofs.paths.read_paths.Given as goal
 

@@ -1,7 +1,7 @@
 use Rattle.std.proofs.Common.{ap, ◌∙◌, ◌+◌, Ok}
 use Rattle.rh_numbers.specs.Chunks.{ended}
 use Rattle.rh_numbers.specs.Reading.{text_said}
-use Rattle.rh_pieces.specs.Pieces.{keys_in}
+use Rattle.rh_cutting.specs.Pieces.{keys_in}
 use Rattle.rh_lists.proofs.Ending.{end_said, key_told, line_refused, refused_here}
 use Rattle.rh_lists.proofs.part.ListPart.end_text.Goals as goal
 

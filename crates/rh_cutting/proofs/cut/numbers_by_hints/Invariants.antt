@@ -1,0 +1,10 @@
+use Rattle.std.proofs.Common.{◌≡◌, ℕ, ◌<◌, length, slice_index}
+use Rattle.rh_cutting.specs.Borders.{NameParts, StandsIn}
+use Rattle.rh_cutting.proofs.cut.numbers_by_hints.Given as goal
+
+abbrev pub invariant-loop-key : goal.invariant-loop-key
+invariant-loop-key l = record {
+  many : length l.numbers.items ≡ l.key-index;
+  inside : NameParts l.borders.values.items l.numbers.items;
+  each : (i : ℕ) → i < l.key-index → StandsIn l.borders.values.items (slice_index l.numbers.items i) (slice_index l.keys i);
+}
