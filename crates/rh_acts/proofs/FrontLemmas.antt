@@ -13,7 +13,6 @@ use Rattle.rh_probe.specs.Look.{Finds}
 use Rattle.rh_probe.specs.Segment.{IsFirstFree, IsFirstStop}
 use Rattle.rh_probe.specs.declared.answer.Look.TheVariants.{Here, Goes}
 use Rattle.rh_edit.specs.News.{inserted_at, shifted_back}
-use Rattle.rh_edit.proofs.NewsLemmas.{inserted_at_len, shifted_back_len}
 use Rattle.rh_acts.specs.Act.{Act}
 use Rattle.rh_acts.specs.KeyActs.{IsFrontAct, PutsIn, TakesOut, ShowsAbsent}
 use Rattle.rh_acts.specs.CellOrder.{past_end, offset_at, entry_of, IsInCellOrder}
@@ -124,12 +123,10 @@ module _ (b k m first : ℕ) (seen news : List ℕ) (act more : Act) (fits : IsB
       (front_in_cell_order (2 ^ b) (home_of b k) act (take m seen) news (low_of b fits k) (omega (arith, size))
       (subst (λ h. IsInCellOrder (2 ^ b) h act (take m seen) news) home order))
 
-pub insert_written : (b k offset last first : ℕ) (seen news rest : List ℕ) (act more : Act) → IsBits b → IsKey k → length seen ≤ 2 ^ b → Finds b k seen (Goes offset) → IsFirstFree seen offset last → first ≡ home_of b k → news ≡ inserted_at (cell_of k) (take (last + 1) seen) offset → IsInCellOrder (2 ^ b) first act (take (last + 1) seen) (take (last + 1) (news ++ rest)) → (last + 1 ≤ length seen) × PutsIn b k (take (last + 1) seen) (take (last + 1) (act ++ more))
-insert_written b k offset last first seen news rest act more fits key room goes free home is order =
+pub insert_written : (b k offset last first : ℕ) (seen : List ℕ) (act more : Act) → IsBits b → IsKey k → length seen ≤ 2 ^ b → Finds b k seen (Goes offset) → IsFirstFree seen offset last → first ≡ home_of b k → IsInCellOrder (2 ^ b) first act (take (last + 1) seen) (inserted_at (cell_of k) (take (last + 1) seen) offset) → (last + 1 ≤ length seen) × PutsIn b k (take (last + 1) seen) (take (last + 1) (act ++ more))
+insert_written b k offset last first seen act more fits key room goes free home order =
     let l : last + 1 ≤ length seen = omega (arith, free.within) in
-    let size = part_len seen (last + 1) l in
-    let news_len : length news ≡ last + 1 = ap length is ∙ inserted_at_len (cell_of k) (take (last + 1) seen) offset (omega (arith, size, free.from)) ∙ size in
-    let news_is : take (last + 1) (news ++ rest) ≡ inserted_at (cell_of k) (take (last + 1) seen) offset = take_at news rest (last + 1) news_len ∙ is in (
+    let size = part_len seen (last + 1) l in (
       l,
       record {
         key = key;
@@ -138,17 +135,14 @@ insert_written b k offset last first seen news rest act more fits key room goes 
         goes = goes_part seen (last + 1) l b k offset (omega (arith, free.from)) goes;
         free = free_part seen offset last free;
         ends = sym size;
-        front = written_front b k (last + 1) first seen (inserted_at (cell_of k) (take (last + 1) seen) offset) act more fits room l home
-            (subst (λ (ns : List ℕ). IsInCellOrder (2 ^ b) first act (take (last + 1) seen) ns) news_is order);
+        front = written_front b k (last + 1) first seen (inserted_at (cell_of k) (take (last + 1) seen) offset) act more fits room l home order;
       },
     )
 
-pub remove_written : (b k offset last first : ℕ) (seen news rest : List ℕ) (act more : Act) → IsBits b → length seen ≤ 2 ^ b → Finds b k seen (Here offset) → IsFirstStop b first seen offset last → first ≡ home_of b k → news ≡ shifted_back (take (last + 1) seen) offset → IsInCellOrder (2 ^ b) first act (take (last + 1) seen) (take (last + 1) (news ++ rest)) → (last + 1 ≤ length seen) × TakesOut b k (take (last + 1) seen) (take (last + 1) (act ++ more))
-remove_written b k offset last first seen news rest act more fits room here stop home is order =
+pub remove_written : (b k offset last first : ℕ) (seen : List ℕ) (act more : Act) → IsBits b → length seen ≤ 2 ^ b → Finds b k seen (Here offset) → IsFirstStop b first seen offset last → first ≡ home_of b k → IsInCellOrder (2 ^ b) first act (take (last + 1) seen) (shifted_back (take (last + 1) seen) offset) → (last + 1 ≤ length seen) × TakesOut b k (take (last + 1) seen) (take (last + 1) (act ++ more))
+remove_written b k offset last first seen act more fits room here stop home order =
     let l : last + 1 ≤ length seen = omega (arith, stop.within) in
-    let size = part_len seen (last + 1) l in
-    let news_len : length news ≡ last + 1 = ap length is ∙ shifted_back_len (take (last + 1) seen) offset (omega (arith, size, stop.from)) ∙ size in
-    let news_is : take (last + 1) (news ++ rest) ≡ shifted_back (take (last + 1) seen) offset = take_at news rest (last + 1) news_len ∙ is in (
+    let size = part_len seen (last + 1) l in (
       l,
       record {
         offset = offset;
@@ -156,8 +150,7 @@ remove_written b k offset last first seen news rest act more fits room here stop
         here = here_part seen (last + 1) l b k offset (omega (arith, stop.from)) here;
         stop = stop_part b (home_of b k) seen offset last (subst (λ h. IsFirstStop b h seen offset last) home stop);
         ends = sym size;
-        front = written_front b k (last + 1) first seen (shifted_back (take (last + 1) seen) offset) act more fits room l home
-            (subst (λ (ns : List ℕ). IsInCellOrder (2 ^ b) first act (take (last + 1) seen) ns) news_is order);
+        front = written_front b k (last + 1) first seen (shifted_back (take (last + 1) seen) offset) act more fits room l home order;
       },
     )
 

@@ -13,13 +13,12 @@ use Rattle.rh_acts.specs.declared.answer.Insertion.TheVariants as insertion
 use Rattle.rh_acts.specs.declared.answer.Removal.{Removal}
 use Rattle.rh_acts.specs.declared.answer.Removal.TheVariants as removal
 
--- The key's act can be written from what was seen: no more than the table's cells, with room for new values and entries of each.
-pub record CanAct (b k : ℕ) (seen news : List ℕ) (entries : Act) : Type 0 where
+-- The key's act can be written from what was seen: no more than the table's cells, with room for an entry of each.
+pub record CanAct (b k : ℕ) (seen : List ℕ) (entries : Act) : Type 0 where
   pub bits : IsBits b
   pub key : IsKey k
   pub within : length seen ≤ 2 ^ b
-  pub new_room : length seen ≤ length news
-  pub entry_room : length seen ≤ length entries
+  pub room : length seen ≤ length entries
 
 -- The key is there, or the first n entries put it into the first n offsets, or no offset shows where it goes, or none from
 -- there on is empty.

@@ -1,5 +1,6 @@
 pub mod Act
 pub mod CellOrder
+pub mod Change
 pub mod Decision
 pub mod Done
 pub mod KeyActs

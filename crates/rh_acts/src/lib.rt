@@ -23,6 +23,7 @@
 #![tactic(auto)]
 
 mod answer;
+mod change;
 mod entries;
 mod laws;
 

@@ -17,7 +17,8 @@
 //!
 //! - `insert`, `remove`: the layout of a set becomes the layout of the changed set. The answer says
 //!   whether it changed.
-//! - `insert_news`, `remove_news`: the new values of a segment, exactly.
+//! - `insert_news`, `remove_news`: the new values of a segment, exactly. `value_with`,
+//!   `value_without`: one of them.
 //! - `insert_segment`, `remove_segment`: a layout whose segment is overwritten by these values is
 //!   the layout of the changed set, also round the end.
 //! - `SeqSet`: its cells are always a layout with a free cell. Each of its calls means what its
@@ -32,6 +33,6 @@ mod set;
 
 pub use insertion::insert;
 pub use laws::{insert_segment, remove_segment};
-pub use news::{insert_news, remove_news};
+pub use news::{insert_news, remove_news, value_with, value_without};
 pub use removal::remove;
 pub use set::SeqSet;

@@ -19,8 +19,9 @@ pub fn insert_news(key: u64, seen: &[u64], at: usize, news: &mut [u64])
     }
 }
 
+/// The new value at offset `i` where this one is put in at offset `at`.
 #[tactic(auto, using(crate::proofs::NewsLemmas::inserted_values))]
-fn value_with(value: u64, seen: &[u64], at: usize, i: usize) -> u64
+pub fn value_with(value: u64, seen: &[u64], at: usize, i: usize) -> u64
     requires at { at < length seen.now }
     requires i { i < length seen.now }
     ensures { result ≡ slice_index (inserted_at value seen.now at) i }
@@ -47,8 +48,9 @@ pub fn remove_news(seen: &[u64], at: usize, news: &mut [u64])
     }
 }
 
+/// The new value at offset `i` where what stands at offset `at` is taken out.
 #[tactic(auto, using(crate::proofs::NewsLemmas::shifted_values))]
-fn value_without(seen: &[u64], at: usize, i: usize) -> u64
+pub fn value_without(seen: &[u64], at: usize, i: usize) -> u64
     requires at { at + 1 < length seen.now }
     requires i { i < length seen.now }
     ensures { result ≡ slice_index (shifted_back seen.now at) i }

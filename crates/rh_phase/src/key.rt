@@ -18,6 +18,7 @@ use std::sync::Wait;
 /// where the worker has too little room left for it. The cells from the key's home on are read in
 /// turn until they decide; the entries of an act that they ask for are changed by one swap of
 /// several cells, and where that fails the key begins again (Kelly, Pearlmutter and Maguire 2018).
+/// `news` is lent by its callers, and not used: the entries get the new values at once.
 pub fn do_key<R: Wait>(
     rt: &R,
     table: &Table,
@@ -52,7 +53,7 @@ pub fn do_key<R: Wait>(
             kind,
             key,
         };
-        match task.try_key(seat, seen, news, entries) {
+        match task.try_key(seat, seen, entries) {
             Tried::Done(answer) => return Some(answer),
             Tried::Spent => return None,
             Tried::Again | Tried::Longer => {}

@@ -24,6 +24,20 @@ pub fn remove_news(seen: &[u64], at: usize, news: &mut [u64])
     rh_edit::remove_news(seen, at, news);
 }
 
+pub fn value_with(value: u64, seen: &[u64], at: usize, i: usize) -> u64
+    requires at { at < length seen.now }
+    requires i { i < length seen.now }
+{
+    rh_edit::value_with(value, seen, at, i)
+}
+
+pub fn value_without(seen: &[u64], at: usize, i: usize) -> u64
+    requires at { at + 1 < length seen.now }
+    requires i { i < length seen.now }
+{
+    rh_edit::value_without(seen, at, i)
+}
+
 pub fn insert(bits: u32, cells: &mut [u64], key: u64) -> bool
     requires layout { IsLayout bits cells.old }
     requires key { IsKey key }

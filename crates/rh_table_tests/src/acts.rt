@@ -52,7 +52,7 @@ fn entries_put_a_key_in(rt: HostRuntime) {
     for &(key, seen, expected) in INSERTIONS {
         let mut entries = [NOTHING; 8];
         assert!(rt; key < 100 && seen.len() < 8);
-        let asked = insert_entries(3, key, seen, &mut [0; 8], &mut entries);
+        let asked = insert_entries(3, key, seen, &mut entries);
         assert_eq!(rt; asked, Insertion::PutsIn(expected.len()));
         assert!(rt; are(&entries, expected), "of {key}");
     }
@@ -63,7 +63,7 @@ fn entries_take_a_key_out(rt: HostRuntime) {
     for &(key, seen, expected) in REMOVALS {
         let mut entries = [NOTHING; 8];
         assert!(rt; key < 100 && seen.len() < 8);
-        let asked = remove_entries(3, key, seen, &mut [0; 8], &mut entries);
+        let asked = remove_entries(3, key, seen, &mut entries);
         assert_eq!(rt; asked, Removal::TakesOut(expected.len()));
         assert!(rt; are(&entries, expected), "of {key}");
     }
@@ -74,7 +74,7 @@ fn entries_show_that_a_key_is_absent(rt: HostRuntime) {
     for &(key, seen, expected) in ABSENCES {
         let mut entries = [NOTHING; 8];
         assert!(rt; key < 100 && seen.len() < 8);
-        let asked = remove_entries(3, key, seen, &mut [0; 8], &mut entries);
+        let asked = remove_entries(3, key, seen, &mut entries);
         assert_eq!(rt; asked, Removal::ShowsAbsent(expected.len()));
         assert!(rt; are(&entries, expected), "of {key}");
     }
@@ -83,26 +83,16 @@ fn entries_show_that_a_key_is_absent(rt: HostRuntime) {
 // 17 gives way to 9, but no empty cell is seen; and 17, away from its home behind 9, is no stop.
 #[test]
 fn no_act_is_asked_for(rt: HostRuntime) {
-    let mut news = [0; 2];
     let mut entries = [NOTHING; 2];
     assert_eq!(rt;
-        insert_entries(3, 9, &[2, 10], &mut news, &mut entries),
+        insert_entries(3, 9, &[2, 10], &mut entries),
         Insertion::Held
     );
+    assert_eq!(rt; insert_entries(3, 9, &[2], &mut entries), Insertion::More);
+    assert_eq!(rt; insert_entries(3, 9, &[18], &mut entries), Insertion::More);
+    assert_eq!(rt; remove_entries(3, 9, &[2], &mut entries), Removal::More);
     assert_eq!(rt;
-        insert_entries(3, 9, &[2], &mut news, &mut entries),
-        Insertion::More
-    );
-    assert_eq!(rt;
-        insert_entries(3, 9, &[18], &mut news, &mut entries),
-        Insertion::More
-    );
-    assert_eq!(rt;
-        remove_entries(3, 9, &[2], &mut news, &mut entries),
-        Removal::More
-    );
-    assert_eq!(rt;
-        remove_entries(3, 9, &[10, 18], &mut news, &mut entries),
+        remove_entries(3, 9, &[10, 18], &mut entries),
         Removal::More
     );
 }

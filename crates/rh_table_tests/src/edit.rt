@@ -47,6 +47,8 @@ fn news_of_a_segment(rt: HostRuntime) {
     let mut back = [0; 4];
     remove_news(&[2, 10, 18, 0], 1, &mut back);
     assert_eq!(rt; back, [2, 18, 0, 0]);
+    assert_eq!(rt; value_with(10, &[2, 18, 0], 1, 2), 18);
+    assert_eq!(rt; value_without(&[2, 10, 18, 0], 1, 2), 0);
 }
 
 // The keys 1, 9 and 17, whose home is cell 4.

@@ -7,19 +7,17 @@ use Rattle.rh_threads.specs.declared.buffer.Buffer.{Buffer}
 -- room for each cell of the table
 pub record HasCapacity (b : ℕ) (r : Buffer) : Type 0 where
   pub seen : 2 ^ b ≤ vec_capacity r.seen
-  pub news : 2 ^ b ≤ vec_capacity r.news
   pub entries : 2 ^ b ≤ vec_capacity r.entries
 
--- room for some cells of the table: for what they hold, and as much for what they are to hold and for the entries
-pub record IsRoom (b : ℕ) (seen news : List ℕ) (entries : List Entry) : Type 0 where
+-- room for some cells of the table: for what they hold, and for as many entries
+pub record IsRoom (b : ℕ) (seen : List ℕ) (entries : List Entry) : Type 0 where
   pub few : length seen ≤ 2 ^ b
-  pub as_many_news : length news ≡ length seen
-  pub as_many_entries : length entries ≡ length seen
+  pub as_many : length entries ≡ length seen
 
 -- and some of it is in use
 pub record HasBufferRoom (b : ℕ) (r : Buffer) : Type 0 where
   pub capacity : HasCapacity b r
   pub open capacity use *
   pub some : 0 < length r.seen.items
-  pub room : IsRoom b r.seen.items r.news.items r.entries.items
+  pub room : IsRoom b r.seen.items r.entries.items
   pub open room use *

@@ -17,15 +17,14 @@ const NO_ENTRY: Entry = Entry {
     new: 0,
 };
 
-/// Room for what the cells from a key's home on hold, what they are to hold after its act, and the
-/// act's entries. It does for as many as the table has cells, of which as many are in use as a scan
-/// has needed so far: the memory behind is never touched.
+/// Room for what the cells from a key's home on hold, and for the entries of its act. It does for
+/// as many as the table has cells, of which as many are in use as a scan has needed so far: the
+/// memory behind is never touched.
 /// All of it is taken before the first worker starts, so that no growth is refused in the middle;
-/// to fill it would touch 10 MB a worker at 18 bits.
+/// to fill it would touch 8 MB a worker at 18 bits.
 #[derive(Drop)]
 pub(crate) struct Buffer {
     pub seen: Vec<u64>,
-    pub news: Vec<u64>,
     pub entries: Vec<Entry>,
 }
 
@@ -38,7 +37,6 @@ impl Buffer {
         let cells = 1usize << bits;
         let mut buffer = Buffer {
             seen: Vec::with_capacity(alloc, cells)?,
-            news: Vec::with_capacity(alloc, cells)?,
             entries: Vec::with_capacity(alloc, cells)?,
         };
         buffer.use_first(bits, FIRST_CELLS);
@@ -68,7 +66,6 @@ impl Buffer {
         let cells = cells.min(1 << bits);
         // (there is room for them)
         self.seen.resize(cells, 0).unwrap();
-        self.news.resize(cells, 0).unwrap();
         self.entries.resize(cells, NO_ENTRY).unwrap();
     }
 }

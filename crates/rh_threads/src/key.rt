@@ -86,24 +86,17 @@ impl<R: Wait> KeyTask<'_, R> {
         ensures tries { IsTriedSo self.now (length buffer.old.seen.items) seat.old seat.new result }
     {
         let seen = buffer.seen.as_mut_slice();
-        let news = buffer.news.as_mut_slice();
-        self.try_key(seat, seen, news, buffer.entries.as_mut_slice())
+        self.try_key(seat, seen, buffer.entries.as_mut_slice())
     }
 
     /// Scans from the key's home on, and swaps what the scan asks for.
-    pub fn try_key(
-        &self,
-        seat: &mut Seat,
-        seen: &mut [u64],
-        news: &mut [u64],
-        entries: &mut [Entry],
-    ) -> Tried
+    pub fn try_key(&self, seat: &mut Seat, seen: &mut [u64], entries: &mut [Entry]) -> Tried
         requires rests { SeatRests self.now.table.now seat.old }
-        requires room { IsRoom self.now.table.now.shape.bits seen.old news.old entries.old }
+        requires room { IsRoom self.now.table.now.shape.bits seen.old entries.old }
         ensures stays { StaysAtRest self.now.table.now seat.old seat.new }
         ensures tries { IsTriedSo self.now (length seen.old) seat.old seat.new result }
     {
-        match self.scan(seat, seen, news, entries) {
+        match self.scan(seat, seen, entries) {
             Scanned::Done(answer) => Tried::Done(answer),
             Scanned::Acts(plan) => match kcas(self.rt, self.table, seat, &entries[..plan.entries]) {
                 Outcome::Done => Tried::Done(plan.changes),
@@ -117,15 +110,9 @@ impl<R: Wait> KeyTask<'_, R> {
 
     /// Reads the cells from the key's home on, until they decide.
     #[inline(always)]
-    fn scan(
-        &self,
-        seat: &mut Seat,
-        seen: &mut [u64],
-        news: &mut [u64],
-        entries: &mut [Entry],
-    ) -> Scanned
+    fn scan(&self, seat: &mut Seat, seen: &mut [u64], entries: &mut [Entry]) -> Scanned
         requires rests { SeatRests self.now.table.now seat.old }
-        requires room { IsRoom self.now.table.now.shape.bits seen.old news.old entries.old }
+        requires room { IsRoom self.now.table.now.shape.bits seen.old entries.old }
         ensures stays { StaysAtRest self.now.table.now seat.old seat.new }
         ensures scans { IsScannedSo self.now (length seen.old) seat.old seat.new entries.new
             result }
@@ -149,7 +136,7 @@ impl<R: Wait> KeyTask<'_, R> {
             let value = plain_value(word).unwrap();
             seen[count] = value;
             if may_decide(kind, bits, key, cell, value, is_placed) {
-                match decide(kind, bits, key, &seen[..count + 1], news, entries) {
+                match decide(kind, bits, key, &seen[..count + 1], entries) {
                     Decision::Done(answer) => return Scanned::Done(answer),
                     Decision::Acts(plan) => return Scanned::Acts(plan),
                     Decision::More => is_placed = true,

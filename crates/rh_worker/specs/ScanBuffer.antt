@@ -7,9 +7,7 @@ use Rattle.rh_worker.specs.declared.scan_buffer.ScanBuffer.{ScanBuffer}
 -- room for what each cell holds, and for an entry of each; of it so much was in use as the longest scan took
 pub record HasRoom (b : ℕ) (s : ScanBuffer) : Type 0 where
   pub seen : 2 ^ b ≤ vec_capacity s.seen
-  pub news : 2 ^ b ≤ vec_capacity s.news
   pub entries : 2 ^ b ≤ vec_capacity s.entries
   pub few : length s.seen.items ≤ 2 ^ b
-  pub as_many_news : length s.news.items ≡ length s.seen.items
-  pub as_many_entries : length s.entries.items ≡ length s.seen.items
+  pub as_many : length s.entries.items ≡ length s.seen.items
   pub values : (p : ℕ) → IsValue (slice_index s.seen.items p)

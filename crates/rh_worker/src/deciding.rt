@@ -28,45 +28,37 @@ pub enum Decision {
 }
 
 /// What is to be done with the key where the cells from its home on hold this. The entries that it
-/// asks for are the first of `entries`, in the order of their cells, with plain words for values;
-/// `news` is room for the new values.
-pub fn decide(
-    kind: Kind,
-    bits: u32,
-    key: u64,
-    seen: &[u64],
-    news: &mut [u64],
-    entries: &mut [Entry],
-) -> Decision
-    requires can { CanAct bits key seen.now news.old entries.old }
+/// asks for are the first of `entries`, in the order of their cells, with plain words for values.
+pub fn decide(kind: Kind, bits: u32, key: u64, seen: &[u64], entries: &mut [Entry]) -> Decision
+    requires can { CanAct bits key seen.now entries.old }
     requires values { (p : ℕ) → IsValue (slice_index seen.now p) }
     ensures { Decides kind bits key seen.now entries.new result }
 {
     match kind {
-        Kind::Insert => insertion(bits, key, seen, news, entries),
-        Kind::Remove => removal(bits, key, seen, news, entries),
+        Kind::Insert => insertion(bits, key, seen, entries),
+        Kind::Remove => removal(bits, key, seen, entries),
         Kind::Ask => answer(bits, key, seen),
     }
 }
 
-fn insertion(bits: u32, key: u64, seen: &[u64], news: &mut [u64], entries: &mut [Entry]) -> Decision
-    requires can { CanAct bits key seen.now news.old entries.old }
+fn insertion(bits: u32, key: u64, seen: &[u64], entries: &mut [Entry]) -> Decision
+    requires can { CanAct bits key seen.now entries.old }
     requires values { (p : ℕ) → IsValue (slice_index seen.now p) }
     ensures { Decides Insert bits key seen.now entries.new result }
 {
-    match insert_entries(bits, key, seen, news, entries) {
+    match insert_entries(bits, key, seen, entries) {
         Insertion::Held => Decision::Done(false),
         Insertion::PutsIn(count) => plan(entries, count, true),
         Insertion::More => Decision::More,
     }
 }
 
-fn removal(bits: u32, key: u64, seen: &[u64], news: &mut [u64], entries: &mut [Entry]) -> Decision
-    requires can { CanAct bits key seen.now news.old entries.old }
+fn removal(bits: u32, key: u64, seen: &[u64], entries: &mut [Entry]) -> Decision
+    requires can { CanAct bits key seen.now entries.old }
     requires values { (p : ℕ) → IsValue (slice_index seen.now p) }
     ensures { Decides Remove bits key seen.now entries.new result }
 {
-    match remove_entries(bits, key, seen, news, entries) {
+    match remove_entries(bits, key, seen, entries) {
         Removal::TakesOut(count) => plan(entries, count, true),
         Removal::ShowsAbsent(count) => plan(entries, count, false),
         Removal::More => Decision::More,

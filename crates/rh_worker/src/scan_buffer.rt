@@ -18,8 +18,6 @@ use std::alloc::{AllocError, Global};
 pub struct ScanBuffer {
     /// What the cells hold.
     pub seen: Vec<u64>,
-    /// What they are to hold after the act.
-    pub news: Vec<u64>,
     /// The entries of the planned descriptor, in the order of their cells, with plain words for
     /// values.
     pub entries: Vec<Entry>,
@@ -41,7 +39,6 @@ impl ScanBuffer {
         let cells = 1usize << bits;
         Ok(ScanBuffer {
             seen: Vec::with_capacity(alloc, cells)?,
-            news: Vec::with_capacity(alloc, cells)?,
             entries: Vec::with_capacity(alloc, cells)?,
         })
     }
@@ -61,7 +58,6 @@ impl ScanBuffer {
             self.seen[count] = value;
         } else {
             self.seen.push_reserved(value);
-            self.news.push_reserved(0);
             self.entries.push_reserved(NO_ENTRY);
         }
     }
@@ -77,13 +73,6 @@ impl ScanBuffer {
         ensures decides { Decides kind bits key (take count self.old.seen.items)
             self.new.entries.items result }
     {
-        decide(
-            kind,
-            bits,
-            key,
-            &self.seen[..count],
-            &mut self.news,
-            &mut self.entries,
-        )
+        decide(kind, bits, key, &self.seen[..count], &mut self.entries)
     }
 }

@@ -15,5 +15,5 @@ returns-in_default c =
 
 pub returns : goal.returns
 returns c =
-    remove_written c.args.bits c.args.key c.in-Here.at c.in-Some.last c.home-first.result c.args.seen.now c.remove_news.new.news (drop (c.in-Some.last + 1) c.args.news.now) c.write_entries-2.new.entries (drop (c.in-Some.last + 1) c.args.entries.now)
-    c.requires.bits c.requires.within c.in-Here.ensures c.in-Some.ensures c.home-first.ensures.value c.remove_news.ensures c.write_entries-2.ensures
+    remove_written c.args.bits c.args.key c.in-Here.at c.in-Some.last c.home-first.result c.args.seen.now c.write_entries-2.new.entries (drop (c.in-Some.last + 1) c.args.entries.now)
+    c.requires.bits c.requires.within c.in-Here.ensures c.in-Some.ensures c.home-first.ensures.value c.write_entries-2.ensures

@@ -18,6 +18,5 @@ loop-preserved g c =
       undone = undone_on h.undone
           (⊎_elim (λ is. let t : tried Again = subst tried is e.tries in t.0) (λ is. let t : tried Longer = subst tried is e.tries in t.0) c.in-Again.is);
       seen = search rules;
-      news = search rules;
       entries = search rules;
     }

@@ -9,6 +9,5 @@ invariant-loop g l = record {
   stays : StaysAtRest l.table l.fn.seat l.seat;
   undone : IsUndone l.table.shape l.kind l.key (view_of l.fn.seat) (view_of l.seat);
   seen : length l.seen ≡ length l.fn.seen;
-  news : length l.news ≡ length l.fn.news;
   entries : length l.entries ≡ length l.fn.entries;
 }

@@ -89,6 +89,5 @@ loop-count-preserved g c =
       ];
       values = one_value l.seen n value within said.0 h.values;
       seen = length-set l.seen n value ∙ h.seen;
-      news = search rules;
       entries = search rules;
     }

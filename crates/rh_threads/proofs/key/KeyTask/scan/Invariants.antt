@@ -18,6 +18,5 @@ invariant-loop-count g l = record {
   passed : AllArePassed l.is_placed l.kind l.bits l.key (take l.count l.seen);
   values : (p : ℕ) → p < l.count → IsValue (slice_index l.seen p);
   seen : length l.seen ≡ length l.fn.seen;
-  news : length l.news ≡ length l.fn.news;
   entries : length l.entries ≡ length l.fn.entries;
 }
