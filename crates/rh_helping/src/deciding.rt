@@ -19,6 +19,7 @@ use rh_carrier::Steps;
 use rh_tagword::State;
 use rh_words::{Reading, Request, Shape, Side, decided_word};
 
+/// Decides that the descriptor succeeded, unless it is decided. It is released in each case.
 pub struct Succeed;
 
 impl<T: Steps> Stage<T> for Succeed {

@@ -95,6 +95,7 @@ impl<T: Steps> Stage<T> for Settle {
     }
 }
 
+/// Reads the control of the descriptor once the mark is placed: whether it is still undecided.
 pub struct MarkControl;
 
 impl<T: Steps> Stage<T> for MarkControl {
@@ -136,6 +137,7 @@ impl<T: Steps> Stage<T> for MarkControl {
     }
 }
 
+/// Swaps the mark for its descriptor.
 pub struct Promote;
 
 impl<T: Steps> Stage<T> for Promote {

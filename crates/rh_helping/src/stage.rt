@@ -14,6 +14,7 @@ use crate::machine::{Machine, Progress};
 use rh_carrier::Steps;
 use rh_words::{Request, Shape, Side};
 
+/// A stage: by its name its step is made where it is the next one (`Machine::step_at`).
 pub trait Stage<T: Steps> {
     ghost use Rattle.rh_helping.specs.declared.machine.At.{At};
 
