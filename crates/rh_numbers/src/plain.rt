@@ -40,22 +40,22 @@ pub(crate) struct PlainLines {
 }
 
 impl Digits {
-    /// These digits of the text, and the one behind them, if one stands there.
+    /// These digits of the text and the one behind them, if one stands there.
     #[inline(always)]
-    fn and_next(self, text: &[u8]) -> Digits
+    fn with_next(self, text: &[u8]) -> Option<Digits>
         requires begin { AreDigits text.now self }
         requires few { self.length < FEW_DIGITS }
-        ensures begin { AreDigits text.now result }
-        ensures few { result.length ≤ self.length + 1 }
+        ensures begin { IfSome result (AreDigits text.now) }
+        ensures one_more { IfSome result (λ digits. digits.length ≡ self.length + 1) }
     {
         let Digits { number, length } = self;
         if length >= text.len() || !text[length].is_ascii_digit() {
-            return self;
+            return None;
         }
-        Digits {
+        Some(Digits {
             number: number * 10 + u64::from(text[length] - b'0'),
             length: length + 1,
-        }
+        })
     }
 }
 
@@ -68,14 +68,22 @@ fn few_digits_of(text: &[u8]) -> Digits
         number: 0,
         length: 0,
     };
-    none.and_next(text).and_next(text).and_next(text)
+    let Some(one) = none.with_next(text) else {
+        return none;
+    };
+    let Some(two) = one.with_next(text) else {
+        return one;
+    };
+    two.with_next(text).unwrap_or(two)
 }
 
-/// Whether the text begins with a few digits alone: to read them one by one takes less time then
-/// than to read them eight at a time. Nothing else depends on it.
+/// Whether the text begins with a few digits alone or with none: to read them one by one takes less
+/// time then than to read them eight at a time. Nothing else depends on it.
 fn is_short(text: &[u8]) -> bool {
     match text {
-        [_, second, third, fourth, ..] => *second < b'0' || *third < b'0' || *fourth < b'0',
+        [first, second, third, fourth, ..] => {
+            *second < b'0' || *third < b'0' || *fourth < b'0' || *first < b'0'
+        }
         _ => true,
     }
 }

@@ -1,7 +1,7 @@
 use Rattle.std.proofs.Common.{rules, ◌≡◌, ◌≤◌, ◌<◌, ◌-◌, true, take, length, get_or, arith, length-take}
 use Rattle.std.specs.Char.{is_ascii_digit}
 use Rattle.rh_numbers.proofs.FewDigits.{few_digits, one_more_digit}
-use Rattle.rh_numbers.proofs.plain.Digits.and_next.Goals as goal
+use Rattle.rh_numbers.proofs.plain.Digits.with_next.Goals as goal
 
 pub overflow_mul-result : goal.overflow_mul-result
 overflow_mul-result c =
