@@ -16,8 +16,8 @@ const SLOT_BITS: u32 = 12;
 /// Among fewer borders a search is as fast as a hint.
 const FEW_BORDERS: usize = 8;
 
-/// The hints, of numbers from `least` on, one for each 2^`shift` of them: the part in which the first
-/// of these stands. There may be none.
+/// The hints, of numbers from `least` on, one for each 2^`shift` of them: the part in which the
+/// first of these stands. There may be none.
 #[derive(Drop)]
 pub(crate) struct Hints {
     least: u64,

@@ -10,8 +10,8 @@
 //!
 //! A list comes in pieces, as they were read. By a sample of all keys borders are chosen, between
 //! which about as many keys stand as between others: so one key far away gives no part all others.
-//! The pieces are cut there, side by side. A key's part is looked up in a table of hints and tested,
-//! and searched for among the borders where the hint is wrong.
+//! The pieces are cut there, side by side. A key's part is looked up in a table of hints and
+//! tested, and searched for among the borders where the hint is wrong.
 //!
 //! Proved:
 //!
