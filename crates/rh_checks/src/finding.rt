@@ -5,10 +5,10 @@ ghost use Rattle.rh_checks.specs.Lists.{AnswersFound};
 use crate::found::Found;
 use crate::text::{find_short_text, find_text};
 use rh_bytes::{Counted, Filled, Progress, fill_front};
+use rh_cutting::KeyList;
 use rh_key_files::{Version, read_pieces};
 use rh_lists::ListFault;
 use rh_numbers::TextFault;
-use rh_cutting::KeyList;
 use std::alloc::Global;
 use std::io::Read;
 

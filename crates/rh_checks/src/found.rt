@@ -3,8 +3,8 @@
 ghost use Rattle.std.specs.Prelude.{◌≡◌};
 ghost use Rattle.rh_checks.specs.Texts.{words_of};
 
-use rh_numbers::{BadLine, Excerpt};
 use rh_cutting::KeyList;
+use rh_numbers::{BadLine, Excerpt};
 use std::fmt;
 
 /// A bad line of a text, as it is shown.

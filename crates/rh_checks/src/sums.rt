@@ -7,8 +7,8 @@ ghost use Rattle.rh_checks.specs.Sums.{AreSums, IsSpan};
 
 use rh_bytes::{Counted, Progress};
 use rh_combine_workers::{Form, How, Wanted, write_combined};
-use rh_forks::Team;
 use rh_cutting::KeyList;
+use rh_forks::Team;
 use std::alloc::AllocError;
 use std::io;
 use std::thread::Threads;

@@ -5,8 +5,8 @@ ghost use Rattle.rh_layout.specs.Key.{IsKey};
 
 use crate::found::{Found, ShownLine};
 use crate::limits::SHOWN_LINES;
-use rh_numbers::{BadLine, Excerpt, LineSoFar};
 use rh_cutting::KeyList;
+use rh_numbers::{BadLine, Excerpt, LineSoFar};
 use std::alloc::{AllocError, Global};
 
 /// What was found in a text so far, and how its line goes on.

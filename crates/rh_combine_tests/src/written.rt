@@ -5,9 +5,9 @@ ghost use Rattle.rh_layout.specs.Key.{IsKey};
 
 use rh_bytes::{Counted, Progress};
 use rh_combine_workers::*;
+use rh_cutting::KeyList;
 use rh_faulty::{FaultyWriter, Refusal};
 use rh_forks::{Team, Workers};
-use rh_cutting::KeyList;
 use std::alloc::{AllocError, Global};
 use std::test::*;
 

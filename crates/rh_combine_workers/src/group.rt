@@ -6,8 +6,8 @@ ghost use Rattle.rh_combine_workers.specs.Groups.{IsGroup, IsRound, TellsGroup, 
 
 use crate::form::spell;
 use crate::part::of_part;
-use rh_cutting::CutLists;
 use rh_combine::Wanted;
+use rh_cutting::CutLists;
 use rh_forks::{Team, map_indices};
 use std::alloc::{AllocError, Global};
 use std::thread::Threads;

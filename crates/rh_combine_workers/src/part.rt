@@ -5,8 +5,8 @@ ghost use Rattle.rh_combine.specs.Combine.{answer};
 ghost use Rattle.rh_cutting.specs.Borders.{between, part_of};
 ghost use Rattle.rh_cutting.specs.Cut.{AreLists};
 
-use rh_cutting::{CutLists, Parts};
 use rh_combine::{How, combine};
+use rh_cutting::{CutLists, Parts};
 use std::alloc::{AllocError, Global};
 
 /// How many keys of a list stand in a part. So much room is taken for them at once; no more depends

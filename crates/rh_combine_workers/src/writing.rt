@@ -10,11 +10,10 @@ ghost use Rattle.rh_combine_workers.specs.Written.{WritesCombined, WritesParts};
 
 use crate::fault::CombineFault;
 use crate::group::{Group, count_of, edge, round};
-use rh_cutting::{CutLists, cut_lists};
 use rh_bytes::{Counted, Progress, WriteFault, write_text};
 use rh_combine::Wanted;
+use rh_cutting::{CutLists, KeyList, cut_lists};
 use rh_forks::{Team, Workers};
-use rh_cutting::KeyList;
 use std::alloc::AllocError;
 use std::io::Write;
 use std::thread::{Threads, join_mut};

@@ -51,11 +51,7 @@ fn line_in(alloc: Global, matches: &ArgMatches<'_>) -> Result<Line, AllocError>
     }
 }
 
-fn lists_asked(
-    alloc: Global,
-    how: How,
-    given: &ArgMatches<'_>,
-) -> Result<Line, AllocError>
+fn lists_asked(alloc: Global, how: How, given: &ArgMatches<'_>) -> Result<Line, AllocError>
     requires { HasArguments (rows_of (found_of given.now)) }
     ensures { IfOk result (λ l. Says (name_of how) (rows_of (found_of given.now)) l) }
 {

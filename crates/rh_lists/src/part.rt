@@ -11,8 +11,8 @@ ghost use Rattle.rh_cutting.specs.Pieces.{keys_in};
 ghost use Rattle.rh_lists.specs.Lists.{OfHeldBytes};
 ghost use Rattle.rh_lists.specs.Parts.{IsOpen, IsPartOf, IsReadTo, TellsText, Refuses, end_of_part};
 
-use rh_numbers::{Chunk, ChunkEnd, LineSoFar, TextFault, read_chunk};
 use rh_cutting::KeyList;
+use rh_numbers::{Chunk, ChunkEnd, LineSoFar, TextFault, read_chunk};
 use std::alloc::{AllocError, Global};
 
 /// What a part of a text says, up to its first bad line.

@@ -7,10 +7,10 @@ use crate::fault::ListFault;
 use crate::skipping::MAGIC_BYTES;
 use crate::text::{read_short_text, read_text};
 use rh_bytes::{Counted, Filled, Progress, fill_front};
+use rh_cutting::KeyList;
 use rh_forks::Team;
 use rh_key_files::{Version, read_pieces};
 use rh_numbers::TextFault;
-use rh_cutting::KeyList;
 use std::io::Read;
 use std::thread::Threads;
 
