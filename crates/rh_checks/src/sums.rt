@@ -6,7 +6,7 @@ ghost use Rattle.rh_cutting.specs.Pieces.{keys_in};
 ghost use Rattle.rh_checks.specs.Sums.{AreSums, IsSpan};
 
 use rh_bytes::{Counted, Progress};
-use rh_combine_workers::{Form, How, Wanted, write_combined};
+use rh_combine_workers::{Form, How, write_answer};
 use rh_cutting::KeyList;
 use rh_forks::Team;
 use std::alloc::AllocError;
@@ -44,12 +44,16 @@ pub(crate) fn sums_of<T: Threads + Sync, P: Progress>(
     let span = span_of(keys.pieces());
     let mut lists = Vec::new(team.alloc);
     lists.push(keys)?;
-    let wanted = Wanted {
-        how: How::Union,
-        form: Form::Count,
-    };
     let mut nowhere = Counted::new(io::sink());
-    let Ok(different) = write_combined(team, wanted, lists, &mut nowhere, progress) else {
+    let wrote = write_answer(
+        team,
+        &How::Union,
+        Form::Count,
+        lists,
+        &mut nowhere,
+        progress,
+    );
+    let Ok(different) = wrote else {
         // Only memory can be wanting where nothing is written.
         return Err(AllocError);
     };

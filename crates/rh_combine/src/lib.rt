@@ -28,13 +28,13 @@
 
 mod crowds;
 mod cut;
+mod form;
 mod how;
 mod laws;
 mod ranges;
 mod table;
-mod wanted;
 
+pub use form::Form;
 pub use how::How;
 pub use laws::{all_in_range, members, range_of_lists, ranges_join};
 pub use ranges::combine;
-pub use wanted::{Form, Wanted};

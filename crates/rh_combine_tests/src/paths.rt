@@ -1,7 +1,7 @@
 //! Lists at paths, over a shelf of which the failed reads are counted.
 
 use rh_bytes::{Counted, Nobody};
-use rh_combine::{Form, How, Wanted};
+use rh_combine::{Form, How};
 use rh_faulty::{FaultyShelf, ShelfFailure};
 use rh_forks::{Team, Workers};
 use rh_key_files::KeyFault;
@@ -105,16 +105,22 @@ fn union<T: Threads + Sync>(
         workers: Workers { count: 1 },
     };
     let job = Job {
-        wanted: Wanted {
-            how: How::Union,
-            form: Form::Lines,
-        },
+        form: Form::Lines,
         paths: &paths,
         skip: 0,
     };
     let mut input = Counted::new(b"".as_slice());
     let mut writer = Counted::new(Vec::new(alloc));
-    let outcome = combine_files(&team, &job, shelf, &mut input, &mut writer, &mut Nobody);
+    let how = How::Union;
+    let outcome = combine_files(
+        &team,
+        &how,
+        &job,
+        shelf,
+        &mut input,
+        &mut writer,
+        &mut Nobody,
+    );
     Ok((writer.into_inner(), outcome))
 }
 

@@ -3,7 +3,7 @@
 ghost use Rattle.std.specs.Prelude.{None, false};
 
 use rh_bytes::{Counted, Progress};
-use rh_combine::{Form, How, Wanted};
+use rh_combine::{Form, How};
 use rh_forks::{Team, Workers};
 use rh_list_commands::{Job, combine_files};
 use rh_shelf::MemShelf;
@@ -103,10 +103,7 @@ fn no_number_is_written_where_a_line_stands(rt: HostRuntime) -> Result<(), Fail>
             workers: Workers { count: 1 },
         };
         let job = Job {
-            wanted: Wanted {
-                how: How::Union,
-                form,
-            },
+            form,
             paths: &paths,
             skip: 0,
         };
@@ -118,7 +115,16 @@ fn no_number_is_written_where_a_line_stands(rt: HostRuntime) -> Result<(), Fail>
         let mut line = Line {
             terminal: &terminal,
         };
-        let outcome = combine_files(&team, &job, &mut shelf, &mut input, &mut writer, &mut line);
+        let how = How::Union;
+        let outcome = combine_files(
+            &team,
+            &how,
+            &job,
+            &mut shelf,
+            &mut input,
+            &mut writer,
+            &mut line,
+        );
         assert_eq!(rt; outcome, Ok(()));
         assert!(rt; terminal.told.get() > 3, "{form:?}");
         assert!(rt; terminal.writes.get() >= 2, "{form:?}");

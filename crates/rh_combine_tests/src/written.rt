@@ -30,7 +30,7 @@ fn piece(alloc: Global, of: u64, first: u64) -> Result<Vec<u64>, AllocError>
 }
 
 // The multiples of a number, in pieces.
-fn list(alloc: Global, of: u64) -> Result<KeyList, AllocError>
+pub(crate) fn list(alloc: Global, of: u64) -> Result<KeyList, AllocError>
     requires { of ≤ 1000 }
 {
     let mut pieces = Vec::new(alloc);
@@ -51,7 +51,7 @@ fn two_lists(alloc: Global) -> Result<Vec<KeyList>, AllocError> {
 
 // How often it was told, the last that was told, and whether that stands.
 #[derive(Drop)]
-struct Told {
+pub(crate) struct Told {
     rounds: usize,
     parts: usize,
     of: usize,
@@ -81,7 +81,7 @@ impl Progress for Told {
     }
 }
 
-const NONE_TOLD: Told = Told {
+pub(crate) const NONE_TOLD: Told = Told {
     rounds: 0,
     parts: 0,
     of: 0,
@@ -95,10 +95,6 @@ fn the_same_text_by_any_number_of_workers(rt: HostRuntime) -> Result<(), Fail> {
         (Form::Packed, 266_672),
         (Form::Count, 0),
     ] {
-        let wanted = Wanted {
-            how: How::Intersect,
-            form,
-        };
         for workers in [1usize, 3, 4] {
             let team = Team {
                 rt: &rt,
@@ -108,7 +104,8 @@ fn the_same_text_by_any_number_of_workers(rt: HostRuntime) -> Result<(), Fail> {
             let mut writer = Counted::new(Vec::new(rt.alloc()));
             let mut told = NONE_TOLD;
             let lists = two_lists(rt.alloc())?;
-            let count = write_combined(&team, wanted, lists, &mut writer, &mut told);
+            let how = How::Intersect;
+            let count = write_answer(&team, &how, form, lists, &mut writer, &mut told);
             assert_eq!(rt; count, Ok(33_334));
             assert_eq!(rt; writer.into_inner().len(), bytes, "{form:?}");
             assert!(rt; told.rounds > 0 && told.parts == told.of);
@@ -128,11 +125,8 @@ fn a_writer_that_fails(rt: HostRuntime) -> Result<(), Fail> {
             alloc: rt.alloc(),
             workers: Workers { count: 2 },
         };
-        let wanted = Wanted {
-            how: How::Union,
-            form: Form::Lines,
-        };
-        let count = write_combined(&team, wanted, lists, &mut writer, &mut told);
+        let how = How::Union;
+        let count = write_answer(&team, &how, Form::Lines, lists, &mut writer, &mut told);
         assert_eq!(rt; count, Err(CombineFault::Write));
         assert_eq!(rt; writer.failures(), 1);
         assert_eq!(rt; told.rounds, 0);

@@ -2,8 +2,8 @@
 use Rattle.std.proofs.Common.{◌≡◌, ℕ, List, [], ◌++◌, refl}
 use Rattle.std.proofs.lemmas.List.Concat.{flat_map-append}
 use Rattle.rh_bytes.specs.Input.{eight_bytes}
-use Rattle.rh_combine.specs.declared.wanted.Form.{Form}
-use Rattle.rh_combine.specs.declared.wanted.Form.TheVariants.{Lines, Count, Packed}
+use Rattle.rh_combine.specs.declared.form.Form.{Form}
+use Rattle.rh_combine.specs.declared.form.Form.TheVariants.{Lines, Count, Packed}
 use Rattle.rh_numbers.specs.Writing.{number_line}
 use Rattle.rh_combine_workers.specs.Spelled.{spelled}
 

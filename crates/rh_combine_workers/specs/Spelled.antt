@@ -1,7 +1,7 @@
 -- Numbers as they are written.
 use Rattle.std.specs.Prelude.{ℕ, List, []}
-use Rattle.rh_combine.specs.declared.wanted.Form.{Form}
-use Rattle.rh_combine.specs.declared.wanted.Form.TheVariants.{Lines, Count, Packed}
+use Rattle.rh_combine.specs.declared.form.Form.{Form}
+use Rattle.rh_combine.specs.declared.form.Form.TheVariants.{Lines, Count, Packed}
 use Rattle.rh_key_files.specs.KeyFile.{spelled_keys}
 use Rattle.rh_numbers.specs.Writing.{text_of}
 

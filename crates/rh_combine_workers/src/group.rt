@@ -6,7 +6,8 @@ ghost use Rattle.rh_combine_workers.specs.Groups.{IsGroup, IsRound, TellsGroup, 
 
 use crate::form::spell;
 use crate::part::of_part;
-use rh_combine::Wanted;
+use crate::question::{Question, by_number};
+use rh_combine::Form;
 use rh_cutting::CutLists;
 use rh_forks::{Team, map_indices};
 use std::alloc::{AllocError, Global};
@@ -28,58 +29,64 @@ pub(crate) fn edge(first: usize, number: usize, size: usize, parts: usize) -> us
 }
 
 /// What comes of the parts from one up to before another: each is spelled as soon as it is sorted.
-fn group_of(
+fn group_of<Q: Question>(
     alloc: Global,
-    wanted: Wanted,
+    question: &Q,
+    form: Form,
     cut: &CutLists,
     from: usize,
     to: usize,
 ) -> Result<Group, AllocError>
+    requires takes { Q.takes question.now (length cut.now.lists.items) }
     requires order { from ≤ to }
     requires inside { to < length cut.now.borders.values.items }
     ensures { (lists : List (List ℕ)) → AreLists cut.now lists →
-        IfOk result (IsGroup wanted cut.now.borders.values.items from to lists) }
+        IfOk result (IsGroup (Q.answer question.now) form cut.now.borders.values.items from to lists) }
 {
     let mut bytes = Vec::new(alloc);
     let mut count = 0u64;
     for part in from..to {
-        let numbers = of_part(alloc, wanted.how, cut, part)?;
-        spell(&mut bytes, wanted.form, &numbers)?;
+        let numbers = of_part(alloc, question, cut, part)?;
+        spell(&mut bytes, form, &numbers)?;
         count = count.saturating_add(numbers.len() as u64);
     }
     Ok(Group { bytes, count })
 }
 
 /// What one worker makes of one group, of those of so many parts from the first part on.
-fn group_at(
+fn group_at<Q: Question>(
     alloc: Global,
-    wanted: Wanted,
+    question: &Q,
+    form: Form,
     cut: &CutLists,
     first: usize,
     size: usize,
     number: usize,
 ) -> Result<Group, AllocError>
-    requires { number + 1 < 2 ^ 64 }
-    ensures { TellsGroup wanted cut.now first size number result }
+    requires takes { Q.takes question.now (length cut.now.lists.items) }
+    requires number { number + 1 < 2 ^ 64 }
+    ensures { TellsGroup (Q.answer question.now) form cut.now first size number result }
 {
     let parts = cut.parts();
     let from = edge(first, number, size, parts);
     let to = edge(first, number + 1, size, parts);
-    group_of(alloc, wanted, cut, from, to)
+    group_of(alloc, question, form, cut, from, to)
 }
 
 /// What the workers make of as many groups of so many parts, from the first part on. Where no
 /// thread can be started the caller does its work.
-fn groups<T: Threads + Sync>(
+fn groups<T: Threads + Sync, Q: Question + Sync>(
     team: &Team<'_, T>,
-    wanted: Wanted,
+    question: &Q,
+    form: Form,
     cut: &CutLists,
     first: usize,
     size: usize,
 ) -> Result<Vec<Result<Group, AllocError>>, AllocError>
+    requires takes { Q.takes question.now (length cut.now.lists.items) }
     ensures len { IfOk result (λ v. length v.items ≡ team.now.workers.count) }
     ensures each { IfOk result (λ v. (i : ℕ) (d : _) → i < team.now.workers.count →
-        TellsGroup wanted cut.now first size i (slice_index_or v.items i d)) }
+        TellsGroup (Q.answer question.now) form cut.now first size i (slice_index_or v.items i d)) }
 {
     let alloc = team.alloc;
     let count = team.workers.count;
@@ -87,23 +94,26 @@ fn groups<T: Threads + Sync>(
         team.rt,
         alloc,
         count,
-        &|i| group_at(alloc, wanted, cut, first, size, i),
+        &|i| group_at(alloc, question, form, cut, first, size, i),
     )
 }
 
 /// A round: these groups, where memory sufficed for each.
-pub(crate) fn round<T: Threads + Sync>(
+pub(crate) fn round<T: Threads + Sync, Q: Question + Sync>(
     team: &Team<'_, T>,
-    wanted: Wanted,
+    question: &Q,
+    form: Form,
     cut: &CutLists,
     first: usize,
     size: usize,
 ) -> Result<Vec<Group>, AllocError>
-    requires { first < length cut.now.borders.values.items }
-    ensures { IfOk result (λ v. IsRound wanted cut.now first
+    requires takes { Q.takes question.now (length cut.now.lists.items) }
+    requires first { first < length cut.now.borders.values.items }
+    ensures { IfOk result (λ v. IsRound (Q.answer question.now) form cut.now first
         (group_edge first team.now.workers.count size (parts_of cut.now)) v.items) }
 {
-    let tried = groups(team, wanted, cut, first, size)?;
+    by_number(question);
+    let tried = groups(team, question, form, cut, first, size)?;
     all_done(team.alloc, tried)
 }
 

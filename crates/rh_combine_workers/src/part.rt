@@ -1,11 +1,10 @@
-//! What comes of the keys of one part, worked out by one worker.
+//! What is answered of the keys of one part, worked out by one worker.
 
 ghost use Rattle.std.specs.Prelude.{◌≡◌, ℕ, List, ◌+◌, ◌<◌, All, IfOk, length, map};
-ghost use Rattle.rh_combine.specs.Combine.{answer};
 ghost use Rattle.rh_cutting.specs.Borders.{between, part_of};
 ghost use Rattle.rh_cutting.specs.Cut.{AreLists};
 
-use rh_combine::{How, combine};
+use crate::question::Question;
 use rh_cutting::{CutLists, Parts};
 use std::alloc::{AllocError, Global};
 
@@ -60,20 +59,21 @@ fn slices_of(alloc: Global, lists: &[Vec<u64>]) -> Result<Vec<&[u64]>, AllocErro
     Ok(slices)
 }
 
-/// What comes of the keys of a part.
-pub(crate) fn of_part(
+/// What is answered of the keys of a part.
+pub(crate) fn of_part<Q: Question>(
     alloc: Global,
-    how: How,
+    question: &Q,
     cut: &CutLists,
     part: usize,
 ) -> Result<Vec<u64>, AllocError>
-    requires { part + 1 < length cut.now.borders.values.items }
+    requires takes { Q.takes question.now (length cut.now.lists.items) }
+    requires part { part + 1 < length cut.now.borders.values.items }
     ensures { (lists : List (List ℕ)) → AreLists cut.now lists →
         IfOk result (λ v. v.items
-        ≡ between cut.now.borders.values.items part (part + 1) (answer how lists)) }
+        ≡ between cut.now.borders.values.items part (part + 1) (Q.answer question.now lists)) }
 {
     let mine = all_gathered(alloc, &cut.lists, part)?;
     let slices = slices_of(alloc, &mine)?;
-    let found = combine(alloc, how, &slices)?;
+    let found = question.ask(alloc, &slices)?;
     Ok(found)
 }

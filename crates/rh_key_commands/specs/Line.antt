@@ -6,8 +6,8 @@ use Rattle.clap.specs.declared.builder.action.ArgAction.TheVariants.{Append}
 use Rattle.rh_key_commands.specs.declared.asked.Line.{Line}
 use Rattle.rh_combine.specs.declared.how.How.{How}
 use Rattle.rh_combine.specs.declared.how.How.TheVariants.{Intersect, Union, Subtract, Xor}
-use Rattle.rh_combine.specs.declared.wanted.Form.{Form}
-use Rattle.rh_combine.specs.declared.wanted.Form.TheVariants.{Lines, Count, Packed}
+use Rattle.rh_combine.specs.declared.form.Form.{Form}
+use Rattle.rh_combine.specs.declared.form.Form.TheVariants.{Lines, Count, Packed}
 use Rattle.rh_key_commands.specs.declared.limits.TheConstants.{MAX_WORKERS}
 use Rattle.rh_arguments.specs.Flags.{IsGiven, flag_rule}
 use Rattle.rh_arguments.specs.Skip.{GivesSkip, HasSkip, skip_rule}

@@ -22,13 +22,16 @@ use std::os::unix::fs::{FileTypeExt, MetadataExt};
 const HEAD_BYTES: usize = 4;
 
 impl Place {
-    ghost use Rattle.std.specs.Prelude.{◌≡◌, [], ◌∷◌, ◌⊎◌, Some, None, map, string_bytes, unwrap_or};
+    ghost use Rattle.std.specs.Prelude.{◌≡◌, ℕ, List, [], ◌∷◌, Some, None, map, string_bytes};
+    ghost use Rattle.std.specs.Prelude.{unwrap_or};
     ghost use Rattle.rh_lists.specs.declared.paths.TheConstants.{INPUT};
     ghost use Rattle.rh_keys_program.specs.Told.{path_of};
 
     /// The one file that is named, or standard input where none is.
     pub fn of(mut files: Vec<String>) -> Place
         ensures none { files.items ≡ [] → path_of result ≡ None }
+        ensures one { (path : List ℕ) → map string_bytes files.items ≡ path ∷ [] →
+            path_of result ≡ Some path }
     {
         match files.pop() {
             Some(path) => Place::File(path),

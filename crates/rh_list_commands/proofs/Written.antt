@@ -5,7 +5,7 @@ use Rattle.rh_bytes.specs.Counting.{AppendsFront, Writes}
 use Rattle.rh_bytes.specs.Input.{eight_bytes}
 use Rattle.rh_bytes.proofs.Writing.{Writes-then, front_longer}
 use Rattle.rh_combine_workers.specs.Spelled.{spelled}
-use Rattle.rh_combine.specs.declared.wanted.Form.TheVariants.{Count, Packed}
+use Rattle.rh_combine.specs.declared.form.Form.TheVariants.{Count, Packed}
 use Rattle.rh_key_files.specs.KeyFile.{header, magic, spelled_keys, spelling}
 use Rattle.rh_key_files.specs.declared.version.Version.TheVariants.{Second}
 use Rattle.rh_numbers.specs.Writing.{number_line}

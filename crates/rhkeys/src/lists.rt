@@ -7,7 +7,7 @@ ghost use Rattle.rhkeys.specs.Asked.{EndsLists, takes_one};
 
 use rh_bytes::{Counted, Progress};
 use rh_cli::Status;
-use rh_combine::{How, Wanted};
+use rh_combine::How;
 use rh_forks::{Team, Workers};
 use rh_key_commands::Line;
 use rh_keys_program::{Fault, is_input_again, times_named, with_path, workers_of};
@@ -53,14 +53,19 @@ pub fn combine<W: Write + Drop, P: Progress>(
         workers: Workers { count },
     };
     let job = Job {
-        wanted: Wanted {
-            how: asked.how,
-            form,
-        },
+        form,
         paths: &asked.files,
         skip,
     };
-    let outcome = combine_files(&team, &job, &mut shelf, &mut input, &mut writer, progress);
+    let outcome = combine_files(
+        &team,
+        &asked.how,
+        &job,
+        &mut shelf,
+        &mut input,
+        &mut writer,
+        progress,
+    );
     match outcome {
         Ok(()) => Ok(Status::Done),
         Err(fault) => Err(with_path(rt, asked.files, fault)),

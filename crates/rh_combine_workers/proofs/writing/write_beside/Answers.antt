@@ -7,4 +7,4 @@ pub returns-then-next-parts-clause-next : goal.returns-then-next-parts-clause-ne
 returns-then-next-parts-clause-next g c =
     let cut = c.args.cut.now in
     rw c.new.ensures.items
-    (no_round c.args.wanted cut c.args.next (group_edge c.args.next c.args.team.now.workers.count c.args.size (parts_of cut)) (omega (arith, c.parts.ensures, c.if-next-parts.true)))
+    (no_round (g.Q.Question.answer c.args.question.now) c.args.form cut c.args.next (group_edge c.args.next c.args.team.now.workers.count c.args.size (parts_of cut)) (omega (arith, c.parts.ensures, c.if-next-parts.true)))

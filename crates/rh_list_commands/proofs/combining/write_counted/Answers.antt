@@ -1,6 +1,5 @@
 use Rattle.std.proofs.Common.{Err, Ok, Result, map, rules}
 use Rattle.std.proofs.lemmas.Result.{err_from_is_err_and}
-use Rattle.rh_combine.specs.Combine.{answer}
 use Rattle.rh_cutting.specs.Pieces.{keys_in}
 use Rattle.rh_list_commands.proofs.Written.{counted, not_counted, told_front}
 use Rattle.rh_list_commands.proofs.combining.write_counted.Goals as goal
@@ -9,7 +8,7 @@ pub returns-in_err-count : goal.returns-in_err-count
 returns-in_err-count g c =
     let p = err_from_is_err_and c.from_residual.result c.from_residual.ensures.1 in
     record {
-      written = told_front _ _ _ c.from_residual.result p.0 p.1 (not_counted _ _ (answer c.args.how (map keys_in c.args.lists.items)) _ c.in_err-count.ensures.written.text);
+      written = told_front _ _ _ c.from_residual.result p.0 p.1 (not_counted _ _ (g.Q.Question.answer c.args.question.now (map keys_in c.args.lists.items)) _ c.in_err-count.ensures.written.text);
       counts = search rules;
     }
 

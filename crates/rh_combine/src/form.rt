@@ -1,7 +1,5 @@
 //! What is written of the numbers that come of lists.
 
-use crate::how::How;
-
 /// What is written of the numbers that come of lists, which rise.
 #[derive(Clone, Copy, Debug, PartialEq, Eq)]
 pub enum Form {
@@ -11,11 +9,4 @@ pub enum Form {
     Count,
     /// A key file of the second version, however many they are.
     Packed,
-}
-
-/// What is made of lists, and what is written of it.
-#[derive(Clone, Copy, Debug, PartialEq, Eq)]
-pub struct Wanted {
-    pub how: How,
-    pub form: Form,
 }

@@ -1,0 +1,55 @@
+-- Which numbers of lists are wanted, by the lists in which each stands.
+use Rattle.std.specs.Prelude.{ℕ, ◌+◌, ◌*◌, nat_le, not, ◌&&◌, ◌||◌, ◌==◌, cond, Bool, false, List, [], ◌∷◌, filter, map, length, get_or, count_by}
+use Rattle.std.specs.List.{fold}
+use Rattle.rh_combine.specs.declared.how.How.{How}
+use Rattle.rh_combine.specs.declared.how.How.TheVariants.{Intersect, Union, Subtract, Xor}
+use Rattle.rh_combine.specs.Combine.{answer, has}
+use Rattle.rh_questions.specs.declared.selection.Expression.{Expression}
+use Rattle.rh_questions.specs.declared.selection.Expression.TheVariants.{List as InList, Joined'}
+use Rattle.rh_questions.specs.declared.selection.Selection.{Selection}
+use Rattle.rh_questions.specs.declared.selection.Selection.TheVariants.{AtLeast, Where}
+
+-- in which of the lists the number stands, list by list
+abbrev pub row_of : List (List ℕ) → ℕ → List Bool
+row_of lists k = map (λ keys. has keys k) lists
+
+-- both; one or another; the first and not the second; one and not the other
+abbrev pub joined : How → Bool → Bool → Bool
+joined Intersect a b = a && b
+joined Union a b = a || b
+joined Subtract a b = a && not b
+joined Xor a b = (a && not b) || (b && not a)
+
+-- what an expression is of a number with this row
+abbrev pub is_true : Expression → List Bool → Bool
+is_true (InList i) row = get_or row i false
+is_true (Joined' how p a q b) row = joined how (is_true a row) (is_true b row)
+
+-- whether a number with this row is wanted
+abbrev pub wants : Selection → List Bool → Bool
+wants (AtLeast n) row = nat_le n (count_by (λ b. b) row)
+wants (Where expression) row = is_true expression row
+
+-- the numbers of the lists of whose row the test is true, in rising order
+abbrev pub chosen : (List Bool → Bool) → List (List ℕ) → List ℕ
+chosen test lists = filter (λ k. test (row_of lists k)) (answer Union lists)
+
+-- the numbers of the lists that are wanted
+abbrev pub selected : Selection → List (List ℕ) → List ℕ
+selected selection lists = chosen (wants selection) lists
+
+-- the first of the row, joined with one after the other
+abbrev pub in_turn : How → List Bool → Bool
+in_turn how [] = false
+in_turn how (first ∷ others) = fold (joined how) first others
+
+-- ---- combinations of lists
+
+-- a row as a number in binary digits, the digit of the first list the lowest
+abbrev pub code : List Bool → ℕ
+code [] = 0
+code (b ∷ row) = cond b 1 0 + 2 * code row
+
+-- how many numbers stand in just these lists
+abbrev pub tally : List (List ℕ) → (combination : ℕ) → ℕ
+tally lists c = length (chosen (λ row. code row == c) lists)

@@ -1,0 +1,26 @@
+//! Laws of what is wanted of lists. They do nothing when they run.
+
+ghost use Rattle.std.specs.Prelude.{◌≡◌, ◌&&◌, ℕ, List};
+ghost use Rattle.std.specs.List.{list_any};
+ghost use Rattle.std.specs.List.Sorted.{IsStrictlyIncreasing};
+ghost use Rattle.rh_combine.specs.Combine.{answer, has};
+ghost use Rattle.rh_combine.specs.declared.how.How.{How as Made};
+ghost use Rattle.rh_questions.specs.Selections.{chosen, in_turn, row_of, selected, wants};
+ghost use Rattle.rh_questions.specs.declared.selection.Selection.{Selection as Wanted};
+
+/// Which numbers are wanted of lists: the rising list of those that stand in one of them, and whose
+/// row is wanted.
+pub fn members()
+    ensures listed { (selection : Wanted) (lists : List (List ℕ)) (k : ℕ) →
+        has (selected selection lists) k
+        ≡ (list_any (λ keys. has keys k) lists && wants selection (row_of lists k)) }
+    ensures rising { (selection : Wanted) (lists : List (List ℕ)) →
+        IsStrictlyIncreasing (selected selection lists) }
+{}
+
+/// What is made of lists is told by rows too: of a number's row the first list is joined with one
+/// after the other.
+pub fn made_by_rows()
+    ensures { (how : Made) (lists : List (List ℕ)) →
+        answer how lists ≡ chosen (in_turn how) lists }
+{}

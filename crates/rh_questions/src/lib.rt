@@ -1,0 +1,33 @@
+//! Which numbers of lists are wanted, by the lists in which each stands: in at least so many of them,
+//! or in those of which an expression is true.
+//!
+//! ```text
+//! let most = Selection::AtLeast(2);
+//! most.ask(alloc, &[&[1, 9], &[9, 9, 4], &[4, 17]])?    // 4, 9
+//! write_answer(&team, &most, Form::Lines, lists, &mut writer, &mut progress)?
+//! ```
+//!
+//! A number has a row: for each list whether it stands there. What is wanted is told by rows, and
+//! costs a word and a comparison more for each kind of it. The numbers of each list are sorted, each
+//! once, and the lists are merged two by two, with the lists of each number as the bits of a word: so
+//! there may be 64 lists. No table is needed for that, and no kind of numbers is hard on it.
+//!
+//! Proved:
+//!
+//! - `Selection` is a `Question`: `ask` answers the rising list of those numbers of the lists whose
+//!   row is wanted (`specs/Selections.antt`). So lists may be cut into parts, and by several workers
+//!   the same is written as by one.
+//! - `members`: a number is in it exactly where it stands in one of the lists and its row is wanted.
+//! - `made_by_rows`: what is made of lists, as `Intersect`, is told by rows too.
+#![tactic(auto)]
+
+mod asking;
+mod laws;
+mod limits;
+mod rows;
+mod selection;
+mod value;
+
+pub use laws::{made_by_rows, members};
+pub use limits::MOST_LISTS;
+pub use selection::{Expression, Selection};

@@ -1,0 +1,4 @@
+//! How many lists there may be.
+
+/// The most lists of which a number's own are known: a bit of a word for each.
+pub const MOST_LISTS: usize = 64;
