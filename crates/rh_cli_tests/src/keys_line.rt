@@ -1,6 +1,6 @@
 use rh_arguments::LineFault;
 use rh_combine::{Form, How};
-use rh_key_commands::{Line, line, meant};
+use rh_key_commands::{Asked, Line, line, meant};
 use std::alloc::Global;
 use std::test::Fail;
 
@@ -43,33 +43,77 @@ fn lines_are_passed_by(rt: HostRuntime) -> Result<(), Fail> {
     Ok(())
 }
 
-// What is made, what is written of it, by how many workers, and of which files.
-type Asked = (How, Option<Form>, usize, &'static [&'static str]);
+// What is made, or in how many lists a number shall stand.
+#[derive(Clone, Copy)]
+enum Question {
+    Made(How),
+    AtLeast(&'static str),
+}
 
-const COMBINATIONS: &[(&[&str], Asked)] = &[
+// What is asked, what is written of it, by how many workers, and of which files.
+type Said = (Question, Option<Form>, usize, &'static [&'static str]);
+
+const COMMANDS: &[(&[&str], Said)] = &[
     (
         &["intersect", "a", "b"],
-        (How::Intersect, Some(Form::Lines), 0, &["a", "b"]),
+        (
+            Question::Made(How::Intersect),
+            Some(Form::Lines),
+            0,
+            &["a", "b"],
+        ),
     ),
     (
         &["union", "b", "--count", "-", "b"],
-        (How::Union, Some(Form::Count), 0, &["b", "-", "b"]),
+        (
+            Question::Made(How::Union),
+            Some(Form::Count),
+            0,
+            &["b", "-", "b"],
+        ),
     ),
     (
         &["subtract", "--packed", "--workers", "64", "a", "--", "--b"],
-        (How::Subtract, Some(Form::Packed), 64, &["a", "--b"]),
+        (
+            Question::Made(How::Subtract),
+            Some(Form::Packed),
+            64,
+            &["a", "--b"],
+        ),
     ),
     (
         &["xor", "--count", "--packed", "--workers=+2", ""],
-        (How::Xor, None, 2, &[""]),
+        (Question::Made(How::Xor), None, 2, &[""]),
+    ),
+    (
+        &["atleast", "2", "a", "--count", "b", "a"],
+        (
+            Question::AtLeast("2"),
+            Some(Form::Count),
+            0,
+            &["a", "b", "a"],
+        ),
+    ),
+    (
+        &["atleast", "--workers", "3", "a", "2"],
+        (Question::AtLeast("a"), Some(Form::Lines), 3, &["2"]),
     ),
 ];
 
+fn is_asked(asked: &Asked, question: Question) -> bool {
+    match (asked, question) {
+        (Asked::Made(made), Question::Made(how)) => *made == how,
+        (Asked::AtLeast(least), Question::AtLeast(text)) => least.as_str() == text,
+        _ => false,
+    }
+}
+
 #[test]
 fn words_are_commands(rt: HostRuntime) -> Result<(), Fail> {
-    for &(words, (how, form, workers, files)) in COMBINATIONS {
+    for &(words, (question, form, workers, files)) in COMMANDS {
         let line = asked_of(rt.alloc(), words)?;
-        assert_eq!(rt; (line.how, line.form), (how, form), "{words:?}");
+        assert!(rt; is_asked(&line.asked, question), "{words:?}");
+        assert_eq!(rt; line.form, form, "{words:?}");
         assert_eq!(rt; line.workers, workers, "{words:?}");
         assert_eq!(rt; line.files.len(), files.len(), "{words:?}");
         for (file, name) in line.files.iter().zip(files) {
@@ -84,6 +128,7 @@ const MISTAKES: &[&[&str]] = &[
     &["unpack"],
     &["pack"],
     &["union"],
+    &["atleast", "2"],
     &["union", "--skip", "-1", "a"],
     &["union", "--skip", "1000000001", "a"],
     &["union", "--workers", "65", "a"],
@@ -119,6 +164,7 @@ fn help_and_version_are_no_mistake(rt: HostRuntime) -> Result<(), Fail> {
 const MEANT: &[(&str, Option<&str>)] = &[
     ("merge", Some("union")),
     ("both", Some("intersect")),
+    ("threshold", Some("atleast")),
     ("verify", Some("check")),
     ("unpack", Some("list")),
     ("union", None),

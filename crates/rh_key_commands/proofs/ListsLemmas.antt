@@ -2,10 +2,10 @@
 use Rattle.std.proofs.Common.{inl, inr, List, [], codes, refl}
 use Rattle.clap.specs.Walk.{Text, rows_after}
 use Rattle.clap.specs.Simple.{Shape, built_leaf, inherited, with_leaf_noted}
-use Rattle.rh_key_commands.specs.Line.{HasArguments, lists_app, rhkeys_app}
+use Rattle.rh_key_commands.specs.Line.{HasArguments, HasLeast, atleast_app, lists_app, rhkeys_app}
 use Rattle.rh_key_commands.specs.declared.limits.TheConstants.{MAX_WORKERS}
 use Rattle.rh_arguments.specs.declared.limits.TheConstants.{MAX_SKIP}
-use Rattle.rh_arguments.proofs.FoundLemmas.{number_found}
+use Rattle.rh_arguments.proofs.FoundLemmas.{number_found, text_found}
 use Rattle.rh_arguments.proofs.ValueLemmas.{Passes}
 
 -- the command as clap builds it
@@ -18,4 +18,19 @@ list_arguments name words passes = (
       (λ same. refl, (λ same. absurd cc, (λ same. absurd cc, (λ same. absurd cc, (λ same. absurd cc, (λ same. absurd cc, tt)))))) passes,
   number_found (codes "skip") MAX_SKIP (lists_built name) words (inr (inr (inr (inr (inl refl)))))
       (λ same. absurd cc, (λ same. absurd cc, (λ same. absurd cc, (λ same. absurd cc, (λ same. refl, (λ same. absurd cc, tt)))))) passes,
+)
+
+abbrev pub atleast_built : Shape
+atleast_built = built_leaf (inherited (with_leaf_noted rhkeys_app.top) atleast_app.top)
+
+pub least_arguments : (words : List Text) → Passes atleast_built words → HasLeast (rows_after atleast_built.rules [] words)
+least_arguments words passes = (
+  text_found (codes "least") atleast_built words (inr (inr (inr (inl refl))))
+      (λ same. absurd cc, (λ same. absurd cc, (λ same. absurd cc, (λ same. refl, (λ same. absurd cc, (λ same. absurd cc, (λ same. absurd cc, tt))))))) passes,
+  (
+    number_found (codes "workers") MAX_WORKERS atleast_built words (inl refl)
+        (λ same. refl, (λ same. absurd cc, (λ same. absurd cc, (λ same. absurd cc, (λ same. absurd cc, (λ same. absurd cc, (λ same. absurd cc, tt))))))) passes,
+    number_found (codes "skip") MAX_SKIP atleast_built words (inr (inr (inr (inr (inr (inl refl))))))
+        (λ same. absurd cc, (λ same. absurd cc, (λ same. absurd cc, (λ same. absurd cc, (λ same. absurd cc, (λ same. refl, (λ same. absurd cc, tt))))))) passes,
+  ),
 )

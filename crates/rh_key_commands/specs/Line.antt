@@ -1,8 +1,10 @@
 -- The command line of rhkeys: the commands as clap reads them, and what a line says of the words.
-use Rattle.std.specs.Prelude.{◌≡◌, ◌↔◌, Bool, IsTrue, List, Option, Some, None, true, false, codes}
+use Rattle.std.specs.Prelude.{◌≡◌, ◌⊎◌, ◌↔◌, Bool, IsTrue, List, Option, Some, None, true, false, codes}
 use Rattle.clap.specs.Walk.{Row, Rule, Text}
 use Rattle.clap.specs.Simple.{App, new_app, new_rule, with_rule, with_subcommand}
 use Rattle.clap.specs.declared.builder.action.ArgAction.TheVariants.{Append}
+use Rattle.rh_key_commands.specs.declared.asked.Asked.{Asked}
+use Rattle.rh_key_commands.specs.declared.asked.Asked.TheVariants.{Made, AtLeast}
 use Rattle.rh_key_commands.specs.declared.asked.Line.{Line}
 use Rattle.rh_combine.specs.declared.how.How.{How}
 use Rattle.rh_combine.specs.declared.how.How.TheVariants.{Intersect, Union, Subtract, Xor}
@@ -11,7 +13,7 @@ use Rattle.rh_combine.specs.declared.form.Form.TheVariants.{Lines, Count, Packed
 use Rattle.rh_key_commands.specs.declared.limits.TheConstants.{MAX_WORKERS}
 use Rattle.rh_arguments.specs.Flags.{IsGiven, flag_rule}
 use Rattle.rh_arguments.specs.Skip.{GivesSkip, HasSkip, skip_rule}
-use Rattle.rh_arguments.specs.Words.{GivesAll, GivesNumber, HasNumber, number_rule, program_app}
+use Rattle.rh_arguments.specs.Words.{GivesAll, GivesNumber, HasNumber, HasText, IsTextFor, number_rule, path_rule, program_app}
 
 -- ---- the commands
 
@@ -26,27 +28,34 @@ name_of Xor = codes "xor"
 abbrev pub lists_rule : Rule
 lists_rule = record (new_rule (codes "file")) { action = Some Append; value_names = 1; required = true }
 
--- a command takes a number of workers, two flags, files, and how many lines are passed by
-abbrev pub unskipped_app : Text → App
-unskipped_app name =
-    with_rule (with_rule (with_rule (with_rule (new_app name) (number_rule (codes "workers") MAX_WORKERS)) (flag_rule (codes "count"))) (flag_rule (codes "packed"))) lists_rule
+-- a command takes a number of workers and two flags
+abbrev pub flagged_app : Text → App
+flagged_app name = with_rule (with_rule (with_rule (new_app name) (number_rule (codes "workers") MAX_WORKERS)) (flag_rule (codes "count"))) (flag_rule (codes "packed"))
 
+-- with files, and how many of their lines are passed by
 abbrev pub lists_app : Text → App
-lists_app name = with_rule (unskipped_app name) skip_rule
+lists_app name = with_rule (with_rule (flagged_app name) lists_rule) skip_rule
+
+-- the command `atleast` takes a number before its files
+abbrev pub atleast_app : App
+atleast_app = with_rule (with_rule (with_rule (flagged_app (codes "atleast")) (path_rule (codes "least"))) lists_rule) skip_rule
 
 abbrev pub rhkeys_app : App
 rhkeys_app =
-    with_subcommand (with_subcommand (with_subcommand (with_subcommand (program_app (codes "rhkeys"))
-    (lists_app (codes "intersect")).top) (lists_app (codes "union")).top) (lists_app (codes "subtract")).top) (lists_app (codes "xor")).top
+    with_subcommand (with_subcommand (with_subcommand (with_subcommand (with_subcommand (program_app (codes "rhkeys"))
+    (lists_app (codes "intersect")).top) (lists_app (codes "union")).top) (lists_app (codes "subtract")).top) (lists_app (codes "xor")).top) atleast_app.top
 
 -- ---- what was found
 
 abbrev pub HasArguments : List Row → Type 0
 HasArguments rows = HasNumber (codes "workers") 0 MAX_WORKERS rows × HasSkip rows
 
+abbrev pub HasLeast : List Row → Type 0
+HasLeast rows = HasText (codes "least") rows × HasArguments rows
+
 -- the name of a command, with what it needs
 abbrev pub IsCommand : Text → List Row → Type 0
-IsCommand name rows = (how : How) × (name ≡ name_of how) × HasArguments rows
+IsCommand name rows = ((how : How) × (name ≡ name_of how) × HasArguments rows) ⊎ ((name ≡ codes "atleast") × HasLeast rows)
 
 -- ---- what a line says
 
@@ -63,11 +72,20 @@ AsksForm rows form =
     (count : Bool) × (packed : Bool) × (IsTrue count ↔ IsGiven (codes "count") rows) × (IsTrue packed ↔ IsGiven (codes "packed") rows)
     × (form ≡ form_asked count packed)
 
+-- what all commands on lists are given
+abbrev pub AsksLists : List Row → Line → Type 0
+AsksLists rows line =
+    AsksForm rows line.form × GivesNumber (codes "workers") 0 MAX_WORKERS rows line.workers × GivesSkip rows line.skip
+    × GivesAll (codes "file") rows line.files.items
+
+-- the command of this name asks this
+abbrev pub AsksThis : Text → List Row → Asked → Type 0
+AsksThis name rows (Made how) = name ≡ name_of how
+AsksThis name rows (AtLeast least) = (name ≡ codes "atleast") × IsTextFor (codes "least") rows least
+
 -- the line is the command, with what was found for it
 abbrev pub Says : Text → List Row → Line → Type 0
-Says name rows line =
-    (name ≡ name_of line.how) × AsksForm rows line.form × GivesNumber (codes "workers") 0 MAX_WORKERS rows line.workers
-    × GivesSkip rows line.skip × GivesAll (codes "file") rows line.files.items
+Says name rows line = AsksThis name rows line.asked × AsksLists rows line
 
 -- a command was found, and the line is that
 abbrev pub Asks : Option (Text × List Row) → Line → Type 0

@@ -2,10 +2,19 @@
 
 use rh_combine::{Form, How};
 
-/// A command, with its arguments: what comes of the lists in these files is to be written.
+/// What is asked of lists.
+#[derive(Drop)]
+pub enum Asked {
+    /// What is made of them.
+    Made(How),
+    /// Which numbers stand in so many of them or more: how many, as it was written.
+    AtLeast(String),
+}
+
+/// A command, with its arguments: what is asked of the lists in these files is to be written.
 #[derive(Drop)]
 pub struct Line {
-    pub how: How,
+    pub asked: Asked,
     /// What is written of it; `None` where two forms are asked for.
     pub form: Option<Form>,
     /// How many share the work; 0: as many as there are processors.

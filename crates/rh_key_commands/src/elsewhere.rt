@@ -8,6 +8,7 @@ pub fn meant(word: &str) -> Option<&'static str> {
         "or" | "unite" | "merge" | "sort" | "uniq" => Some("union"),
         "difference" | "diff" | "minus" | "sub" | "except" | "without" | "not" => Some("subtract"),
         "symmetric-difference" | "symdiff" => Some("xor"),
+        "at-least" | "threshold" | "majority" => Some("atleast"),
         "validate" | "verify" | "lint" => Some("check"),
         "unpack" | "cat" | "dump" => Some("list"),
         "version" => Some("--version"),

@@ -14,7 +14,7 @@ pub const PROGRAM: &str = "Intersects, unites and subtracts lists of numbers of 
 /// The program, on `rhkeys --help` alone.
 pub const PROGRAM_AT_LENGTH: &str = "\
 Makes one list of several lists of numbers, of any length: what stands in all of them, in any, in
-the first alone, in an odd number of them. `rhkeys COMMAND --help` says what a command reads and
+the first alone, in an odd number of them, in at least so many. `rhkeys COMMAND --help` says what a command reads and
 writes.
 
 `rhkeys check`, `rhkeys pack`, `rhkeys list` and `rhkeys split` are the commands of `rhpack`, which
@@ -74,6 +74,20 @@ rising order, one a line: of two lists what stands in one of them alone.
 Example:
   rhkeys xor spring.txt summer.txt > changed.txt",
 };
+
+/// The command `atleast`.
+pub const ATLEAST: Texts = Texts {
+    about: "Writes the numbers that stand in at least K of the lists",
+    at_length: "\
+Reads lists of numbers, at most 64, and writes those that stand in at least K of them, each once and
+in rising order, one a line. A number that stands in one list several times stands in that one.
+
+Example:
+  rhkeys atleast 2 spring.txt summer.txt autumn.txt > again.txt",
+};
+
+/// The argument K of `atleast`.
+pub const LEAST: &str = "In how many lists a number stands: from 1 to the number of FILEs";
 
 /// The argument `--workers`.
 pub const WORKERS: &str =

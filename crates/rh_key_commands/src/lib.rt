@@ -16,7 +16,7 @@ mod laws;
 mod limits;
 mod parse;
 
-pub use asked::Line;
+pub use asked::{Asked, Line};
 pub use elsewhere::meant;
 pub use laws::fixed_numbers;
 pub use limits::MAX_WORKERS;

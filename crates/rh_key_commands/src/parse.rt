@@ -1,22 +1,23 @@
 //! Reading the words of the command line.
 
-ghost use Rattle.std.specs.Prelude.{◌≡◌, [], IfOk, IfErr};
+ghost use Rattle.std.specs.Prelude.{◌≡◌, [], IfOk, IfErr, codes};
 ghost use Rattle.clap.specs.Words.{app_of, fault_of, found_of, rows_of};
 ghost use Rattle.clap.specs.Words.{subcommand_of, subcommand_rows_of};
 ghost use Rattle.rh_arguments.specs.Faults.{IsOneOf};
 ghost use Rattle.rh_arguments.specs.Words.{Finds, IsArg, texts_of};
-ghost use Rattle.rh_key_commands.specs.Line.{Asks, HasArguments, IsCommand, Says, form_asked};
-ghost use Rattle.rh_key_commands.specs.Line.{lists_app, lists_rule, name_of, rhkeys_app};
-ghost use Rattle.rh_key_commands.specs.Line.{unskipped_app};
+ghost use Rattle.rh_key_commands.specs.Line.{Asks, AsksLists, HasArguments, HasLeast, IsCommand};
+ghost use Rattle.rh_key_commands.specs.Line.{Says, atleast_app, flagged_app, form_asked, lists_app, lists_rule};
+ghost use Rattle.rh_key_commands.specs.Line.{name_of, rhkeys_app};
 
-use crate::asked::Line;
+use crate::asked::{Asked, Line};
 use crate::help::{self, Texts};
 use crate::limits::MAX_WORKERS;
 use clap::{Arg, ArgAction, ArgMatches, Command};
 use rh_arguments::LineFault;
 use rh_arguments::flags::{flag_arg, is_given};
 use rh_arguments::parsing::{
-    describe, find_arguments, number, number_arg, program_command, texts, with_subcommand,
+    describe, find_arguments, number, number_arg, program_command, text, text_arg, texts,
+    with_subcommand,
 };
 use rh_arguments::skip::{skip_arg, skip_asked};
 use rh_combine::{Form, How};
@@ -47,6 +48,7 @@ fn line_in(alloc: Global, matches: &ArgMatches<'_>) -> Result<Line, AllocError>
         Some(("union", given)) => lists_asked(alloc, How::Union, given),
         Some(("subtract", given)) => lists_asked(alloc, How::Subtract, given),
         Some(("xor", given)) => lists_asked(alloc, How::Xor, given),
+        Some(("atleast", given)) => atleast_asked(alloc, given),
         _ => unreachable!(),
     }
 }
@@ -55,12 +57,29 @@ fn lists_asked(alloc: Global, how: How, given: &ArgMatches<'_>) -> Result<Line, 
     requires { HasArguments (rows_of (found_of given.now)) }
     ensures { IfOk result (λ l. Says (name_of how) (rows_of (found_of given.now)) l) }
 {
+    line_of(alloc, Asked::Made(how), given)
+}
+
+fn atleast_asked(alloc: Global, given: &ArgMatches<'_>) -> Result<Line, AllocError>
+    requires { HasLeast (rows_of (found_of given.now)) }
+    ensures { IfOk result (λ l. Says (codes "atleast") (rows_of (found_of given.now)) l) }
+{
+    let least = text(alloc, given, "least")?;
+    line_of(alloc, Asked::AtLeast(least), given)
+}
+
+/// What is asked, with what all commands on lists are given.
+fn line_of(alloc: Global, asked: Asked, given: &ArgMatches<'_>) -> Result<Line, AllocError>
+    requires { HasArguments (rows_of (found_of given.now)) }
+    ensures asked { IfOk result (λ l. l.asked ≡ asked) }
+    ensures lists { IfOk result (AsksLists (rows_of (found_of given.now))) }
+{
     let form = form_of(is_given(given, "count"), is_given(given, "packed"));
     let workers = number(given, "workers", 0, MAX_WORKERS);
     let skip = skip_asked(given);
     let files = texts(alloc, given, "file")?;
     Ok(Line {
-        how,
+        asked,
         form,
         workers,
         skip,
@@ -98,24 +117,36 @@ fn command<'a>(alloc: Global) -> Result<Command<'a>, AllocError>
     let with_intersect = with_subcommand(program, intersect);
     let with_union = with_subcommand(with_intersect, union);
     let with_subtract = with_subcommand(with_union, subtract);
-    with_subcommand(with_subtract, xor)
+    let with_xor = with_subcommand(with_subtract, xor);
+    with_subcommand(with_xor, atleast_command(alloc))
 }
 
 fn lists_command<'a>(alloc: Global, name: &'a str, texts: &Texts) -> Result<Command<'a>, AllocError>
     ensures { IfOk result (λ c. app_of c ≡ lists_app name.now) }
 {
-    unskipped(alloc, name, texts)?.arg(skip_arg(alloc))
+    flagged(alloc, name, texts)?
+        .arg(lists_arg(alloc))?
+        .arg(skip_arg(alloc))
 }
 
-// The command without `--skip`: with one argument more, a proof of it takes too long.
-fn unskipped<'a>(alloc: Global, name: &'a str, texts: &Texts) -> Result<Command<'a>, AllocError>
-    ensures { IfOk result (λ c. app_of c ≡ unskipped_app name.now) }
+fn atleast_command<'a>(alloc: Global) -> Result<Command<'a>, AllocError>
+    ensures { IfOk result (λ c. app_of c ≡ atleast_app) }
+{
+    flagged(alloc, "atleast", &help::ATLEAST)?
+        .arg(text_arg(alloc, "least", "K", help::LEAST))?
+        .arg(lists_arg(alloc))?
+        .arg(skip_arg(alloc))
+}
+
+// The command with what all commands on lists take before their FILEs: with more arguments, a proof
+// of it takes too long.
+fn flagged<'a>(alloc: Global, name: &'a str, texts: &Texts) -> Result<Command<'a>, AllocError>
+    ensures { IfOk result (λ c. app_of c ≡ flagged_app name.now) }
 {
     describe(alloc, name, texts.about, texts.at_length, help::LISTS)
         .arg(number_arg(alloc, "workers", MAX_WORKERS, help::WORKERS))?
         .arg(flag_arg(alloc, "count", help::COUNT))?
-        .arg(flag_arg(alloc, "packed", help::PACKED))?
-        .arg(lists_arg(alloc))
+        .arg(flag_arg(alloc, "packed", help::PACKED))
 }
 
 fn lists_arg<'a>(alloc: Global) -> Arg<'a>

@@ -28,6 +28,8 @@ ending_by (fault.Input place fault reason shown) = ending_by_input fault
 ending_by fault.InputTwice = CommandLine
 ending_by fault.OneList = CommandLine
 ending_by fault.TwoOutputs = CommandLine
+ending_by (fault.Least lists) = CommandLine
+ending_by fault.TooMany = CommandLine
 
 -- how the program ends: a fault is as good as told where the reader of the output has gone away
 abbrev pub ending : Result Status Fault → (reader_gone : Bool) → Status

@@ -24,6 +24,7 @@ impl Fault {
             Fault::Program(fault) => fault.status(),
             Fault::Input { fault, .. } => status_of_input(fault),
             Fault::InputTwice | Fault::OneList | Fault::TwoOutputs => Status::CommandLine,
+            Fault::Least { .. } | Fault::TooMany => Status::CommandLine,
         }
     }
 }

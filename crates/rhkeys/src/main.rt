@@ -3,7 +3,7 @@
 
 mod lists;
 
-use lists::combine;
+use lists::ask;
 use rh_arguments::LineFault;
 use rh_bytes::Progress;
 use rh_cli::{Outlet, ProgramFault, ProgressLine, Status, answer, hold_closed, words};
@@ -37,9 +37,9 @@ where
 {
     let words = words(rt)?;
     match line(rt.alloc(), &words) {
-        Ok(asked) => {
-            progress.expect(bytes_of(rt, &asked.files));
-            combine(rt, outlet, asked, progress)
+        Ok(line) => {
+            progress.expect(bytes_of(rt, &line.files));
+            ask(rt, outlet, line, progress)
         }
         Err(LineFault::Words(error)) => {
             let status = answer(rt, &error)?;

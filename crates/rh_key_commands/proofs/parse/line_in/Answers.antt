@@ -1,4 +1,4 @@
-use Rattle.std.proofs.Common.{◌≡◌, List, Some, option_map, arith}
+use Rattle.std.proofs.Common.{◌≡◌, List, Some, option_map, arith, inl, inr}
 use Rattle.clap.specs.Words.{Row, Text}
 use Rattle.rh_key_commands.specs.Line.{IsCommand, name_of}
 use Rattle.rh_combine.specs.declared.how.How.{How}
@@ -21,6 +21,9 @@ unreachable-requires c =
             | Subtract ↦ λ is. grind (arith, named.1, is, w.in_default.is)
             | Xor ↦ λ is. grind (arith, named.1, is, w.in_default.is)
           ] in
-          absurd (unnamed named.2.0 named.2.1)
+          elim named.2 [
+            | inl lists ↦ absurd (unnamed lists.0 lists.1)
+            | inr atleast ↦ grind (arith, named.1, atleast.0, w.in_default.is)
+          ]
       | in_default-via-in_default w ↦ grind (arith, named.1, w.in_default.is)
     ]
