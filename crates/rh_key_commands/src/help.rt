@@ -14,8 +14,8 @@ pub const PROGRAM: &str = "Intersects, unites and subtracts lists of numbers of 
 /// The program, on `rhkeys --help` alone.
 pub const PROGRAM_AT_LENGTH: &str = "\
 Makes one list of several lists of numbers, of any length: what stands in all of them, in any, in
-the first alone, in an odd number of them, in at least so many. `rhkeys COMMAND --help` says what a command reads and
-writes.
+the first alone, in an odd number of them, in at least so many. `rhkeys COMMAND --help` says what a
+command reads and writes.
 
 `rhkeys check`, `rhkeys pack`, `rhkeys list` and `rhkeys split` are the commands of `rhpack`, which
 checks lists, makes key files for rhset and texts of them, and splits long lists: see

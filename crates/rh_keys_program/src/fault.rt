@@ -29,7 +29,9 @@ pub enum Fault {
     TwoOutputs,
     /// In how many of so many lists a number shall stand is none of the numbers that it can be.
     #[error("K is a number from 1 to {lists}, the number of lists")]
-    Least { lists: usize },
+    Least {
+        lists: usize,
+    },
     /// Of a number it is known of 64 lists whether it stands there.
     #[error("more than 64 lists: intersect, union, subtract and xor take them")]
     TooMany,
