@@ -1,5 +1,5 @@
 -- What is written of numbers, from what the workers wrote of them.
-use Rattle.std.proofs.Common.{◌≡◌, ◌∙◌, ℕ, List, [], ◌++◌, length, Option, Result, subst, append-nil, append_assoc, Err, sym}
+use Rattle.std.proofs.Common.{◌≡◌, ◌∙◌, ℕ, List, [], ◌++◌, length, Option, Result, subst, append_assoc, Err, sym}
 use Rattle.std.specs.Io.KnownBytes.{Appends}
 use Rattle.rh_bytes.specs.Counting.{AppendsFront, Writes}
 use Rattle.rh_bytes.specs.Input.{eight_bytes}

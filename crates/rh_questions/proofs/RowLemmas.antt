@@ -1,6 +1,6 @@
 -- Rows of numbers: one more, those of one list, and what they are of all lists.
-use Rattle.std.proofs.Common.{◌≡◌, ◌∙◌, ap, sym, subst, refl, ℕ, zero, suc, ◌+◌, ◌-◌, ◌^◌, ◌<◌, ◌≤◌, inl, inr, arith, lit<, Bool, true, false, cond, List, [], ◌∷◌, ◌++◌, drop, length, take, get_or}
-use Rattle.std.specs.Prelude.{All, filter, map, slice_index, slice_index_or, sum_by, ◌||◌, ◌==◌, nat_lt}
+use Rattle.std.proofs.Common.{◌≡◌, ◌∙◌, ap, sym, subst, refl, ℕ, zero, suc, ◌+◌, ◌^◌, ◌<◌, ◌≤◌, inl, inr, arith, lit<, Bool, true, false, cond, List, [], ◌∷◌, ◌++◌, drop, length, take, get_or}
+use Rattle.std.specs.Prelude.{All, filter, map, slice_index_or, ◌||◌, ◌==◌, nat_lt}
 use Rattle.std.specs.List.{AllByRecursion, Contains, list_any}
 use Rattle.std.specs.List.Sorted.{IsStrictlyIncreasing, IsStrictlySortedBy}
 use Rattle.std.specs.Ordering.{MatchOrdering, nat_cmp}

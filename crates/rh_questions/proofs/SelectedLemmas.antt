@@ -1,6 +1,6 @@
 -- Which numbers are wanted, and what is made of lists, by rows.
 use Rattle.std.proofs.Common.{◌≡◌, ◌∙◌, ap, sym, refl, ℕ, Bool, true, false, List, [], ◌∷◌}
-use Rattle.std.specs.Prelude.{filter, ◌&&◌}
+use Rattle.std.specs.Prelude.{◌&&◌}
 use Rattle.std.specs.List.{fold, list_any}
 use Rattle.std.specs.FinSet as set
 use Rattle.std.specs.FinSet.{contains}

@@ -1,4 +1,4 @@
-use Rattle.std.proofs.Common.{◌≡◌, ◌∙◌, ◌++◌, ◌∷◌, ◌+◌, ◌<◌, ℕ, Bool, List, [], ap, append-nil, arith, cond, false, get_or, length, rules, sym, take, true}
+use Rattle.std.proofs.Common.{◌≡◌, ◌∙◌, ◌++◌, ◌∷◌, ◌+◌, ◌<◌, ℕ, Bool, List, [], ap, append-nil, arith, cond, get_or, length, rules, sym, take}
 use Rattle.std.specs.Prelude.{filter, map}
 use Rattle.std.proofs.lemmas.List.{take_all}
 use Rattle.rh_questions.specs.declared.rows.Row.{Row}
