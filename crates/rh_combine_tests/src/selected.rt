@@ -1,6 +1,6 @@
 //! Numbers that are wanted by the lists in which they stand.
 
-ghost use Rattle.std.specs.Prelude.{All, IfOk};
+ghost use Rattle.std.specs.Prelude.{◌≡◌, All, IfOk, length};
 ghost use Rattle.rh_layout.specs.Key.{IsKey};
 
 use crate::written::{NONE_TOLD, list};
@@ -20,13 +20,27 @@ fn some(alloc: Global, seed: u64) -> Result<Vec<u64>, AllocError>
 {
     let mut state = seed;
     let mut numbers = Vec::new(alloc);
-    for _ in 0..40u64 {
+    for i in 0..40u64 {
         state = state
             .wrapping_mul(6_364_136_223_846_793_005)
-            .wrapping_add(1);
+            .wrapping_add(i);
         numbers.push((state >> 33) % RANGE)?;
     }
     Ok(numbers)
+}
+
+// The same list so many times.
+fn times(alloc: Global, list: &[u64], many: usize) -> Result<Vec<&[u64]>, AllocError>
+    requires { All IsKey list.now }
+    ensures len { IfOk result (λ v. length v.items ≡ many) }
+    ensures keys { IfOk result (λ v. All (λ l. All IsKey l.now) v.items) }
+{
+    let mut lists = Vec::new(alloc);
+    for i in 0..many {
+        let _ = i;
+        lists.push(list)?;
+    }
+    Ok(lists)
 }
 
 // The expression of both.
@@ -95,11 +109,12 @@ fn numbers_of_which_an_expression_is_true(rt: HostRuntime) -> Result<(), Fail> {
 fn numbers_of_64_lists_and_of_none(rt: HostRuntime) -> Result<(), Fail> {
     let a = some(rt.alloc(), 7)?;
     let once = Selection::AtLeast(1).ask(rt.alloc(), &[&a])?;
-    let all = Selection::AtLeast(64).ask(rt.alloc(), &[a.as_slice(); 64])?;
+    let many = times(rt.alloc(), &a, 64)?;
+    let all = Selection::AtLeast(64).ask(rt.alloc(), &many)?;
     assert_eq!(rt; all, once);
-    let last = Selection::Where(Expression::List(63)).ask(rt.alloc(), &[a.as_slice(); 64])?;
+    let last = Selection::Where(Expression::List(63)).ask(rt.alloc(), &many)?;
     assert_eq!(rt; last, once);
-    let more = Selection::AtLeast(65).ask(rt.alloc(), &[a.as_slice(); 64])?;
+    let more = Selection::AtLeast(65).ask(rt.alloc(), &many)?;
     assert!(rt; more.is_empty());
     let none = Selection::AtLeast(0).ask(rt.alloc(), &[])?;
     assert!(rt; none.is_empty());
@@ -114,10 +129,11 @@ fn the_same_is_written_by_any_number_of_workers(rt: HostRuntime) -> Result<(), F
             alloc: rt.alloc(),
             workers: Workers { count: workers },
         };
-        let mut lists = Vec::new(rt.alloc());
-        for of in [2, 3, 5] {
-            lists.push(list(rt.alloc(), of)?)?;
-        }
+        let lists = vec![in rt.alloc();
+            list(rt.alloc(), 2)?,
+            list(rt.alloc(), 3)?,
+            list(rt.alloc(), 5)?,
+        ]?;
         let mut writer = Counted::new(Vec::new(rt.alloc()));
         let mut told = NONE_TOLD;
         let two = Selection::AtLeast(2);

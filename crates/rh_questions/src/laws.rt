@@ -1,11 +1,12 @@
 //! Laws of what is wanted of lists. They do nothing when they run.
 
-ghost use Rattle.std.specs.Prelude.{◌≡◌, ◌&&◌, ℕ, List};
+ghost use Rattle.std.specs.Prelude.{◌≡◌, ◌≤◌, ◌+◌, ◌&&◌, ℕ, List, map};
 ghost use Rattle.std.specs.List.{list_any};
 ghost use Rattle.std.specs.List.Sorted.{IsStrictlyIncreasing};
+ghost use Rattle.rh_layout.specs.Range.{within};
 ghost use Rattle.rh_combine.specs.Combine.{answer, has};
 ghost use Rattle.rh_combine.specs.declared.how.How.{How as Made};
-ghost use Rattle.rh_questions.specs.Selections.{chosen, in_turn, row_of, selected, wants};
+ghost use Rattle.rh_questions.specs.Selections.{chosen, in_turn, row_of, selected, tally, wants};
 ghost use Rattle.rh_questions.specs.declared.selection.Selection.{Selection as Wanted};
 
 /// Which numbers are wanted of lists: the rising list of those that stand in one of them, and whose
@@ -17,6 +18,17 @@ pub fn members()
     ensures rising { (selection : Wanted) (lists : List (List ℕ)) →
         IsStrictlyIncreasing (selected selection lists) }
 {}
+
+/// The numbers of two ranges, one after the other, that stand in just these lists are as many as
+/// those of both.
+pub fn tallies_join(from: u64, middle: u64, to: u64)
+    requires first { from ≤ middle }
+    requires second { middle ≤ to }
+    ensures { (lists : List (List ℕ)) (c : ℕ) → tally (map (within from to) lists) c
+        ≡ tally (map (within from middle) lists) c + tally (map (within middle to) lists) c }
+{
+    let _ = (from, middle, to);
+}
 
 /// What is made of lists is told by rows too: of a number's row the first list is joined with one
 /// after the other.

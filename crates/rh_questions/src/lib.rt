@@ -5,6 +5,7 @@
 //! let most = Selection::AtLeast(2);
 //! most.ask(alloc, &[&[1, 9], &[9, 9, 4], &[4, 17]])?    // 4, 9
 //! write_answer(&team, &most, Form::Lines, lists, &mut writer, &mut progress)?
+//! compare(alloc, &[&[1, 9], &[9, 9, 4]])?               // [0, 1, 1, 1]: none; 1; 4; 9
 //! ```
 //!
 //! A number has a row: for each list whether it stands there. What is wanted is told by rows, and
@@ -17,17 +18,21 @@
 //! - `Selection` is a `Question`: `ask` answers the rising list of those numbers of the lists whose
 //!   row is wanted (`specs/Selections.antt`). So lists may be cut into parts, and by several workers
 //!   the same is written as by one.
+//! - `compare`: how many numbers stand in each combination of up to 16 lists. `tallies_join`: the
+//!   counts of two ranges add up to those of both.
 //! - `members`: a number is in it exactly where it stands in one of the lists and its row is wanted.
 //! - `made_by_rows`: what is made of lists, as `Intersect`, is told by rows too.
 #![tactic(auto)]
 
 mod asking;
+mod comparing;
 mod laws;
 mod limits;
 mod rows;
 mod selection;
 mod value;
 
-pub use laws::{made_by_rows, members};
-pub use limits::MOST_LISTS;
+pub use comparing::compare;
+pub use laws::{made_by_rows, members, tallies_join};
+pub use limits::{MOST_COMPARED, MOST_LISTS};
 pub use selection::{Expression, Selection};
