@@ -41,7 +41,8 @@ fn group_of<Q: Question>(
     requires order { from ≤ to }
     requires inside { to < length cut.now.borders.values.items }
     ensures { (lists : List (List ℕ)) → AreLists cut.now lists →
-        IfOk result (IsGroup (Q.answer question.now) form cut.now.borders.values.items from to lists) }
+        IfOk result (IsGroup (Q.answer question.now) form cut.now.borders.values.items from to
+        lists) }
 {
     let mut bytes = Vec::new(alloc);
     let mut count = 0u64;

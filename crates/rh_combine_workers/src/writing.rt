@@ -84,7 +84,8 @@ fn write_beside<T: Threads + Sync, Q: Question + Sync, W: Write, P: Progress>(
         &mut || -> Result<Vec<Group>, AllocError>
             requires { IsSync T.row × (next < length cut.now.borders.values.items)
                 × Q.takes question.now (length cut.now.lists.items) }
-            ensures { IfOk result (λ v. IsRound (Q.answer question.entry.now) form cut.entry.now next
+            ensures { IfOk result (λ v. IsRound (Q.answer question.entry.now) form cut.entry.now
+                next
                 (group_edge next workers.count size (parts_of cut.entry.now)) v.items) }
         {
             round(
@@ -114,8 +115,8 @@ fn write_rounds<T: Threads + Sync, Q: Question + Sync, W: Write, P: Progress>(
     progress: &mut P,
 ) -> Result<u64, CombineFault>
     requires takes { Q.takes question.now (length cut.now.lists.items) }
-    ensures { WritesParts W.contents (Q.answer question.now) form cut.now 0 (parts_of cut.now) writer.old writer.new
-        result }
+    ensures { WritesParts W.contents (Q.answer question.now) form cut.now 0 (parts_of cut.now)
+        writer.old writer.new result }
 {
     by_number(question);
     let parts = cut.parts();
@@ -138,10 +139,10 @@ fn write_rounds<T: Threads + Sync, Q: Question + Sync, W: Write, P: Progress>(
     Ok(count)
 }
 
-/// Writes the numbers that are answered of the lists, each once, in rising order, and tells how many
-/// they are. The keys of a list may stand in any order. What is written depends neither on the number of
-/// workers nor on the pieces of a list. But small pieces leave the workers little to share: 100,000
-/// keys or so are a good size.
+/// Writes the numbers that are answered of the lists, each once, in rising order, and tells how
+/// many they are. The keys of a list may stand in any order. What is written depends neither on the
+/// number of workers nor on the pieces of a list. But small pieces leave the workers little to
+/// share: 100,000 keys or so are a good size.
 ///
 /// It takes at most some 24 bytes for each number of the lists, and a round's groups beside that.
 /// Where no thread can be started the caller does its work. Progress is told once a round, and taken
@@ -155,8 +156,8 @@ pub fn write_answer<T: Threads + Sync, Q: Question + Sync, W: Write, P: Progress
     progress: &mut P,
 ) -> Result<u64, CombineFault>
     requires takes { Q.takes question.now (vec_len lists) }
-    ensures { WritesAnswer W.contents (Q.answer question.now) form (map keys_in lists.items) writer.old writer.new
-        result }
+    ensures { WritesAnswer W.contents (Q.answer question.now) form (map keys_in lists.items)
+        writer.old writer.new result }
 {
     by_number(question);
     progress.cut();

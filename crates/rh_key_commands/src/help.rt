@@ -110,7 +110,7 @@ before and after it. A line with no more than these is skipped, and so is one th
 Numbers may come in any order and any number of times. A line may end with CR LF; the last may lack
 its LF. A byte order mark at the head is passed by.
 
-One FILE alone is taken by `union`, which sorts it.
+One FILE alone is taken by `union`, which sorts it, and by `atleast`.
 
 Nothing is written where a list is refused: the first one that is is told, with its first bad line.
 The lists are held in memory: at most 24 bytes for each number of all lists, 32 MB, and 8 MB for

@@ -6,8 +6,8 @@ ghost use Rattle.clap.specs.Words.{subcommand_of, subcommand_rows_of};
 ghost use Rattle.rh_arguments.specs.Faults.{IsOneOf};
 ghost use Rattle.rh_arguments.specs.Words.{Finds, IsArg, texts_of};
 ghost use Rattle.rh_key_commands.specs.Line.{Asks, AsksLists, HasArguments, HasLeast, IsCommand};
-ghost use Rattle.rh_key_commands.specs.Line.{Says, atleast_app, flagged_app, form_asked, lists_app, lists_rule};
-ghost use Rattle.rh_key_commands.specs.Line.{name_of, rhkeys_app};
+ghost use Rattle.rh_key_commands.specs.Line.{Says, atleast_app, flagged_app, form_asked};
+ghost use Rattle.rh_key_commands.specs.Line.{lists_app, lists_rule, name_of, rhkeys_app};
 
 use crate::asked::{Asked, Line};
 use crate::help::{self, Texts};

@@ -55,7 +55,8 @@ pub fn combine_files<
     progress: &mut P,
 ) -> Result<(), CommandFault>
     requires takes { Q.takes question.now (length job.now.paths.now) }
-    ensures command { EndsCommand (Q.answer question.now) job.now.form (map string_bytes job.now.paths.now)
+    ensures command { EndsCommand (Q.answer question.now) job.now.form
+        (map string_bytes job.now.paths.now)
         (seen job.now.skip (S.state shelf.old)) (seen job.now.skip (S.state shelf.new))
         I.remaining input.old input.new
         W.contents writer.old writer.new result }
@@ -117,7 +118,8 @@ fn write_counted<T: Threads + Sync, Q: Question + Sync, W: Write, P: Progress>(
     progress: &mut P,
 ) -> Result<(), CombineFault>
     requires takes { Q.takes question.now (vec_len lists) }
-    ensures { WritesText W.contents (number_line (length (Q.answer question.now (map keys_in lists.items))))
+    ensures { WritesText W.contents
+        (number_line (length (Q.answer question.now (map keys_in lists.items))))
         writer.old writer.new result }
 {
     let count = write_answer(team, question, Form::Count, lists, writer, progress)?;
@@ -149,7 +151,8 @@ fn write_packed<T: Threads + Sync, Q: Question + Sync, W: Write, P: Progress>(
     progress: &mut P,
 ) -> Result<(), CombineFault>
     requires takes { Q.takes question.now (vec_len lists) }
-    ensures { WritesText W.contents (spelling Second (Q.answer question.now (map keys_in lists.items)))
+    ensures { WritesText W.contents
+        (spelling Second (Q.answer question.now (map keys_in lists.items)))
         writer.old writer.new result }
 {
     let mut held = Counted::new(Vec::new(team.alloc));

@@ -8,7 +8,8 @@ ghost use Rattle.rh_shelf.specs.Shelf.{Files};
 /// Two runs of a command over the same files and the same input that end well wrote the same bytes,
 /// whatever numbers of workers they had.
 pub fn commands_agree()
-    ensures { (answer : List (List ℕ) → List ℕ) (form : Shape) (files : Files) (paths : List (List ℕ)) (input : List ℕ)
+    ensures { (answer : List (List ℕ) → List ℕ) (form : Shape)
+        (files : Files) (paths : List (List ℕ)) (input : List ℕ)
         (left rest : Option (List ℕ)) (first first_new second second_new : List ℕ) →
         Ends answer form (Some files) paths (Some input) left (Some first) (Some first_new)
         went_well →

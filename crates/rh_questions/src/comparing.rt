@@ -24,7 +24,7 @@ fn count_rows(alloc: Global, rows: &[Row], combinations: usize) -> Result<Vec<u6
 }
 
 /// How many numbers stand in each combination of the lists, which may be of any length, with
-/// repeats, in any order: at place c those of the lists i of which c has bit i, and of no other one.
+/// repeats, in any order: at place c those that stand in just the lists i of which c has bit i.
 /// Place 0 has none. `AllocError` comes only for want of memory.
 pub fn compare(alloc: Global, lists: &[&[u64]]) -> Result<Vec<u64>, AllocError>
     requires few { length lists.now ≤ MOST_COMPARED }

@@ -1,5 +1,7 @@
-//! Which numbers of lists are wanted, by the lists in which each stands: in at least so many of them,
-//! or in those of which an expression is true.
+//! Which numbers of lists are wanted, by the lists in which each stands: in at least so many of
+//! them, or in those of which an expression is true.
+//!
+//! `rhkeys` stands on it.
 //!
 //! ```text
 //! let most = Selection::AtLeast(2);
@@ -8,19 +10,20 @@
 //! compare(alloc, &[&[1, 9], &[9, 9, 4]])?               // [0, 1, 1, 1]: none; 1; 4; 9
 //! ```
 //!
-//! A number has a row: for each list whether it stands there. What is wanted is told by rows, and
-//! costs a word and a comparison more for each kind of it. The numbers of each list are sorted, each
-//! once, and the lists are merged two by two, with the lists of each number as the bits of a word: so
-//! there may be 64 lists. No table is needed for that, and no kind of numbers is hard on it.
+//! A number has a row: for each list whether it stands there. What is wanted is told by rows. The
+//! numbers of each list are sorted, each once, and the lists are merged two by two, with the lists
+//! of each number as the bits of a word: so there may be 64 lists. No table is needed for that, and
+//! no kind of numbers is hard on it.
 //!
 //! Proved:
 //!
 //! - `Selection` is a `Question`: `ask` answers the rising list of those numbers of the lists whose
-//!   row is wanted (`specs/Selections.antt`). So lists may be cut into parts, and by several workers
-//!   the same is written as by one.
+//!   row is wanted (`specs/Selections.antt`). So lists may be cut into parts, and by several
+//!   workers the same is written as by one.
 //! - `compare`: how many numbers stand in each combination of up to 16 lists. `tallies_join`: the
 //!   counts of two ranges add up to those of both.
-//! - `members`: a number is in it exactly where it stands in one of the lists and its row is wanted.
+//! - `members`: a number is in what is wanted exactly where it stands in one of the lists and its
+//!   row is wanted.
 //! - `made_by_rows`: what is made of lists, as `Intersect`, is told by rows too.
 #![tactic(auto)]
 
