@@ -1,5 +1,5 @@
 -- How a command on lists ends.
-use Rattle.std.specs.Prelude.{◌≡◌, ℕ, ◌<◌, ◌≤◌, Bool, true, false, List, length, Result, Ok, Err}
+use Rattle.std.specs.Prelude.{◌≡◌, ℕ, ◌<◌, ◌≤◌, Bool, true, false, List, length, string_bytes, Result, Ok, Err}
 use Rattle.std.specs.Str.Parse.{IsNumeral, digits_value, without_leading_plus}
 use Rattle.rh_cli.specs.declared.status.Status.{Status}
 use Rattle.rh_cli.specs.declared.status.Status.TheVariants.{Done}
@@ -29,12 +29,17 @@ TellsNumber text lists fault.TooMany = MOST_LISTS < lists
 TellsNumber text lists (fault.Least n) = (n ≡ lists) × (lists ≤ MOST_LISTS) × ((least : ℕ) → IsLeast text lists least → ⊥)
 TellsNumber text lists told = ⊥
 
+-- that is told of how many lists were asked for, and of nothing else
+abbrev pub TellsLeast : Asked → (lists : ℕ) → Fault → Type 0
+TellsLeast (Made how) lists told = ⊥
+TellsLeast (AtLeast text) lists told = TellsNumber (string_bytes text) lists told
+
 -- how a command on lists may end: done, refused before a list is read, or by what is told of it
-abbrev pub EndsLists : (paths : List (List ℕ)) → Result Status Fault → Type 0
-EndsLists paths (Ok status) = status ≡ Done
-EndsLists paths (Err fault.TwoOutputs) = Unit {0}
-EndsLists paths (Err fault.InputTwice) = Unit {0}
-EndsLists paths (Err fault.OneList) = Unit {0}
-EndsLists paths (Err (fault.Least lists)) = lists ≡ length paths
-EndsLists paths (Err fault.TooMany) = MOST_LISTS < length paths
-EndsLists paths (Err told) = (f : CommandFault) × TellsCommand paths f told
+abbrev pub EndsLists : Asked → (paths : List (List ℕ)) → Result Status Fault → Type 0
+EndsLists asked paths (Ok status) = status ≡ Done
+EndsLists asked paths (Err fault.TwoOutputs) = Unit {0}
+EndsLists asked paths (Err fault.InputTwice) = Unit {0}
+EndsLists asked paths (Err fault.OneList) = Unit {0}
+EndsLists asked paths (Err (fault.Least lists)) = TellsLeast asked (length paths) (fault.Least lists)
+EndsLists asked paths (Err fault.TooMany) = TellsLeast asked (length paths) fault.TooMany
+EndsLists asked paths (Err told) = (f : CommandFault) × TellsCommand paths f told

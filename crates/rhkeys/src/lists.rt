@@ -32,7 +32,7 @@ pub fn ask<W: Write + Drop, P: Progress>(
         result ≡ Err Fault.OneList }
     ensures input { line.form ≢ None →
         1 < count_by is_input (map string_bytes line.files.items) → result ≡ Err Fault.InputTwice }
-    ensures ends { EndsLists (map string_bytes line.files.items) result }
+    ensures ends { EndsLists line.asked (map string_bytes line.files.items) result }
 {
     let Some(form) = line.form else {
         return Err(Fault::TwoOutputs);
@@ -66,7 +66,7 @@ fn answer<Q: Question + Sync, W: Write + Drop, P: Progress>(
     progress: &mut P,
 ) -> Result<Status, Fault>
     requires takes { Q.takes question.now (vec_len line.files) }
-    ensures { EndsLists (map string_bytes line.files.items) result }
+    ensures { EndsLists line.asked (map string_bytes line.files.items) result }
 {
     let skip = line.skip as u64;
     let mut shelf = CountedShelf::new(FileShelf::new(rt));
