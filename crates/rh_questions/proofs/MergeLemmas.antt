@@ -21,16 +21,19 @@ stays i j b next other =
     let still : i + 0 ≡ i = omega arith in
     next ∙ ap (λ b. i + cond b 1 0) other ∙ still
 
+-- where the next row is met there is one
+met_inside : (rows : List Row) (i : ℕ) (head : Row) → IsHead rows i head → (number : ℕ) → number < 2 ^ 64 - 1 → (head.number == number) ≡ true → i < length rows
+met_inside rows i head is number low met =
+    elim (cases_lt i (length rows)) [
+      | inl here ↦ here
+      | inr behind ↦ absurd (omega (arith, (is.behind behind).0, eqb-true head.number number met, low))
+    ]
+
 -- ---- the front of some rows, where its next row is met or not
 
 module _ (rows : List Row) (rise : Rise rows) (i : ℕ) (inside : i ≤ length rows) (head : Row) (is : IsHead rows i head) (number : ℕ) (low : number < 2 ^ 64 - 1) where
-  -- where the next row is met there is one
   there : (head.number == number) ≡ true → i < length rows
-  there met =
-      elim (cases_lt i (length rows)) [
-        | inl here ↦ here
-        | inr behind ↦ absurd (omega (arith, (is.behind behind).0, eqb-true head.number number met, low))
-      ]
+  there = met_inside rows i head is number low
 
   pub inside_then : (j : ℕ) → j ≡ i + cond (head.number == number) 1 0 → j ≤ length rows
   inside_then j next =
@@ -145,11 +148,7 @@ all_merged some others i j all is end_some end_others k =
 -- the row of a number that is met is one of the rows, with all its lists
 module _ (rows : List Row) (rise : Rise rows) (i : ℕ) (head : Row) (is : IsHead rows i head) (number : ℕ) (key : IsKey number) where
   met_there : (head.number == number) ≡ true → i < length rows
-  met_there met =
-      elim (cases_lt i (length rows)) [
-        | inl here ↦ here
-        | inr behind ↦ absurd (omega (arith, (is.behind behind).0, eqb-true head.number number met, key))
-      ]
+  met_there = met_inside rows i head is number (omega (arith, key))
 
   pub met_lists : (head.number == number) ≡ true → (0 < head.lists) × (head.lists ≡ lists_of rows number)
   met_lists met =
