@@ -43,11 +43,12 @@ fn lines_are_passed_by(rt: HostRuntime) -> Result<(), Fail> {
     Ok(())
 }
 
-// What is made, or in how many lists a number shall stand.
+// What is made, in how many lists a number shall stand, or what shall be true of it.
 #[derive(Clone, Copy)]
 enum Question {
     Made(How),
     AtLeast(&'static str),
+    Select(&'static str),
 }
 
 // What is asked, what is written of it, by how many workers, and of which files.
@@ -98,12 +99,22 @@ const COMMANDS: &[(&[&str], Said)] = &[
         &["atleast", "--workers", "3", "a", "2"],
         (Question::AtLeast("a"), Some(Form::Lines), 3, &["2"]),
     ),
+    (
+        &["select", "a - b", "a=x", "--packed", "b=y"],
+        (
+            Question::Select("a - b"),
+            Some(Form::Packed),
+            0,
+            &["a=x", "b=y"],
+        ),
+    ),
 ];
 
 fn is_asked(asked: &Asked, question: Question) -> bool {
     match (asked, question) {
         (Asked::Made(made), Question::Made(how)) => *made == how,
         (Asked::AtLeast(least), Question::AtLeast(text)) => least.as_str() == text,
+        (Asked::Select(expression), Question::Select(text)) => expression.as_str() == text,
         _ => false,
     }
 }
@@ -129,6 +140,7 @@ const MISTAKES: &[&[&str]] = &[
     &["pack"],
     &["union"],
     &["atleast", "2"],
+    &["select", "a"],
     &["union", "--skip", "-1", "a"],
     &["union", "--skip", "1000000001", "a"],
     &["union", "--workers", "65", "a"],
@@ -165,6 +177,7 @@ const MEANT: &[(&str, Option<&str>)] = &[
     ("merge", Some("union")),
     ("both", Some("intersect")),
     ("threshold", Some("atleast")),
+    ("where", Some("select")),
     ("verify", Some("check")),
     ("unpack", Some("list")),
     ("union", None),

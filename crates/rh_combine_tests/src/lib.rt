@@ -1,5 +1,5 @@
-//! Tests of what comes of lists, by one worker and by several, of questions about them, of lists at
-//! paths, and of lists that are checked, from outside.
+//! Tests of what comes of lists, by one worker and by several, of questions about them, of
+//! expressions, of lists at paths, and of lists that are checked, from outside.
 //!
 //! They stand apart from the code, so that each crate is proved once, and not once more with its
 //! tests.
@@ -7,6 +7,8 @@
 
 #[cfg(test)]
 mod checks;
+#[cfg(test)]
+mod expressions;
 #[cfg(test)]
 mod long;
 #[cfg(test)]

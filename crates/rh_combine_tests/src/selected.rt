@@ -6,6 +6,7 @@ ghost use Rattle.rh_layout.specs.Key.{IsKey};
 use crate::written::{NONE_TOLD, list};
 use rh_bytes::Counted;
 use rh_combine_workers::*;
+use rh_expressions::*;
 use rh_forks::{Team, Workers};
 use rh_questions::*;
 use std::alloc::{AllocError, Global};

@@ -7,7 +7,7 @@ use Rattle.rh_key_commands.specs.Line.{IsCommand, rhkeys_app}
 use Rattle.rh_arguments.specs.Words.{Finds}
 use Rattle.rh_arguments.proofs.CommandLemmas.{EachMeets, help_alone, words_find}
 use Rattle.rh_combine.specs.declared.how.How.TheVariants.{Intersect, Union, Subtract, Xor}
-use Rattle.rh_key_commands.proofs.ListsLemmas.{least_arguments, list_arguments}
+use Rattle.rh_key_commands.proofs.ListsLemmas.{expression_arguments, least_arguments, list_arguments}
 
 each_command : (word : Text) (rest : List Text) → (word ≡ codes "help" → ⊥) → EachMeets IsCommand word rest (built rhkeys_app).subs
 each_command word rest other = (
@@ -18,7 +18,10 @@ each_command word rest other = (
       λ is below. inl (Subtract, refl, list_arguments (codes "subtract") rest below),
       (
         λ is below. inl (Xor, refl, list_arguments (codes "xor") rest below),
-        (λ is below. inr (refl, least_arguments rest below), (λ is below. absurd (help_alone word other is), tt)),
+        (
+          λ is below. inr (inl (refl, least_arguments rest below)),
+          (λ is below. inr (inr (refl, expression_arguments rest below)), (λ is below. absurd (help_alone word other is), tt)),
+        ),
       ),
     ),
   ),

@@ -2,7 +2,7 @@
 use Rattle.std.proofs.Common.{inl, inr, List, [], codes, refl}
 use Rattle.clap.specs.Walk.{Text, rows_after}
 use Rattle.clap.specs.Simple.{Shape, built_leaf, inherited, with_leaf_noted}
-use Rattle.rh_key_commands.specs.Line.{HasArguments, HasLeast, atleast_app, lists_app, rhkeys_app}
+use Rattle.rh_key_commands.specs.Line.{HasArguments, HasWith, lists_app, rhkeys_app, worded_app}
 use Rattle.rh_key_commands.specs.declared.limits.TheConstants.{MAX_WORKERS}
 use Rattle.rh_arguments.specs.declared.limits.TheConstants.{MAX_SKIP}
 use Rattle.rh_arguments.proofs.FoundLemmas.{number_found, text_found}
@@ -20,17 +20,30 @@ list_arguments name words passes = (
       (λ same. absurd cc, (λ same. absurd cc, (λ same. absurd cc, (λ same. absurd cc, (λ same. refl, (λ same. absurd cc, tt)))))) passes,
 )
 
-abbrev pub atleast_built : Shape
-atleast_built = built_leaf (inherited (with_leaf_noted rhkeys_app.top) atleast_app.top)
+-- the commands that take a word before their files
+abbrev pub worded_built : (name word : Text) → Shape
+worded_built name word = built_leaf (inherited (with_leaf_noted rhkeys_app.top) (worded_app name word).top)
 
-pub least_arguments : (words : List Text) → Passes atleast_built words → HasLeast (rows_after atleast_built.rules [] words)
+pub least_arguments : (words : List Text) → Passes (worded_built (codes "atleast") (codes "least")) words → HasWith (codes "least") (rows_after (worded_built (codes "atleast") (codes "least")).rules [] words)
 least_arguments words passes = (
-  text_found (codes "least") atleast_built words (inr (inr (inr (inl refl))))
+  text_found (codes "least") (worded_built (codes "atleast") (codes "least")) words (inr (inr (inr (inl refl))))
       (λ same. absurd cc, (λ same. absurd cc, (λ same. absurd cc, (λ same. refl, (λ same. absurd cc, (λ same. absurd cc, (λ same. absurd cc, tt))))))) passes,
   (
-    number_found (codes "workers") MAX_WORKERS atleast_built words (inl refl)
+    number_found (codes "workers") MAX_WORKERS (worded_built (codes "atleast") (codes "least")) words (inl refl)
         (λ same. refl, (λ same. absurd cc, (λ same. absurd cc, (λ same. absurd cc, (λ same. absurd cc, (λ same. absurd cc, (λ same. absurd cc, tt))))))) passes,
-    number_found (codes "skip") MAX_SKIP atleast_built words (inr (inr (inr (inr (inr (inl refl))))))
+    number_found (codes "skip") MAX_SKIP (worded_built (codes "atleast") (codes "least")) words (inr (inr (inr (inr (inr (inl refl))))))
+        (λ same. absurd cc, (λ same. absurd cc, (λ same. absurd cc, (λ same. absurd cc, (λ same. absurd cc, (λ same. refl, (λ same. absurd cc, tt))))))) passes,
+  ),
+)
+
+pub expression_arguments : (words : List Text) → Passes (worded_built (codes "select") (codes "expression")) words → HasWith (codes "expression") (rows_after (worded_built (codes "select") (codes "expression")).rules [] words)
+expression_arguments words passes = (
+  text_found (codes "expression") (worded_built (codes "select") (codes "expression")) words (inr (inr (inr (inl refl))))
+      (λ same. absurd cc, (λ same. absurd cc, (λ same. absurd cc, (λ same. refl, (λ same. absurd cc, (λ same. absurd cc, (λ same. absurd cc, tt))))))) passes,
+  (
+    number_found (codes "workers") MAX_WORKERS (worded_built (codes "select") (codes "expression")) words (inl refl)
+        (λ same. refl, (λ same. absurd cc, (λ same. absurd cc, (λ same. absurd cc, (λ same. absurd cc, (λ same. absurd cc, (λ same. absurd cc, tt))))))) passes,
+    number_found (codes "skip") MAX_SKIP (worded_built (codes "select") (codes "expression")) words (inr (inr (inr (inr (inr (inl refl))))))
         (λ same. absurd cc, (λ same. absurd cc, (λ same. absurd cc, (λ same. absurd cc, (λ same. absurd cc, (λ same. refl, (λ same. absurd cc, tt))))))) passes,
   ),
 )

@@ -4,7 +4,7 @@ use Rattle.clap.specs.Walk.{Row, Rule, Text}
 use Rattle.clap.specs.Simple.{App, new_app, new_rule, with_rule, with_subcommand}
 use Rattle.clap.specs.declared.builder.action.ArgAction.TheVariants.{Append}
 use Rattle.rh_key_commands.specs.declared.asked.Asked.{Asked}
-use Rattle.rh_key_commands.specs.declared.asked.Asked.TheVariants.{Made, AtLeast}
+use Rattle.rh_key_commands.specs.declared.asked.Asked.TheVariants.{Made, AtLeast, Select}
 use Rattle.rh_key_commands.specs.declared.asked.Line.{Line}
 use Rattle.rh_combine.specs.declared.how.How.{How}
 use Rattle.rh_combine.specs.declared.how.How.TheVariants.{Intersect, Union, Subtract, Xor}
@@ -36,26 +36,34 @@ flagged_app name = with_rule (with_rule (with_rule (new_app name) (number_rule (
 abbrev pub lists_app : Text → App
 lists_app name = with_rule (with_rule (flagged_app name) lists_rule) skip_rule
 
--- the command `atleast` takes a number before its files
+-- with a word before its files
+abbrev pub worded_app : (name word : Text) → App
+worded_app name word = with_rule (with_rule (with_rule (flagged_app name) (path_rule word)) lists_rule) skip_rule
+
 abbrev pub atleast_app : App
-atleast_app = with_rule (with_rule (with_rule (flagged_app (codes "atleast")) (path_rule (codes "least"))) lists_rule) skip_rule
+atleast_app = worded_app (codes "atleast") (codes "least")
+
+abbrev pub select_app : App
+select_app = worded_app (codes "select") (codes "expression")
 
 abbrev pub rhkeys_app : App
 rhkeys_app =
-    with_subcommand (with_subcommand (with_subcommand (with_subcommand (with_subcommand (program_app (codes "rhkeys"))
-    (lists_app (codes "intersect")).top) (lists_app (codes "union")).top) (lists_app (codes "subtract")).top) (lists_app (codes "xor")).top) atleast_app.top
+    with_subcommand (with_subcommand (with_subcommand (with_subcommand (with_subcommand (with_subcommand (program_app (codes "rhkeys"))
+    (lists_app (codes "intersect")).top) (lists_app (codes "union")).top) (lists_app (codes "subtract")).top) (lists_app (codes "xor")).top) atleast_app.top) select_app.top
 
 -- ---- what was found
 
 abbrev pub HasArguments : List Row → Type 0
 HasArguments rows = HasNumber (codes "workers") 0 MAX_WORKERS rows × HasSkip rows
 
-abbrev pub HasLeast : List Row → Type 0
-HasLeast rows = HasText (codes "least") rows × HasArguments rows
+abbrev pub HasWith : (word : Text) → List Row → Type 0
+HasWith word rows = HasText word rows × HasArguments rows
 
 -- the name of a command, with what it needs
 abbrev pub IsCommand : Text → List Row → Type 0
-IsCommand name rows = ((how : How) × (name ≡ name_of how) × HasArguments rows) ⊎ ((name ≡ codes "atleast") × HasLeast rows)
+IsCommand name rows =
+    ((how : How) × (name ≡ name_of how) × HasArguments rows)
+    ⊎ (((name ≡ codes "atleast") × HasWith (codes "least") rows) ⊎ ((name ≡ codes "select") × HasWith (codes "expression") rows))
 
 -- ---- what a line says
 
@@ -82,6 +90,7 @@ AsksLists rows line =
 abbrev pub AsksThis : Text → List Row → Asked → Type 0
 AsksThis name rows (Made how) = name ≡ name_of how
 AsksThis name rows (AtLeast least) = (name ≡ codes "atleast") × IsTextFor (codes "least") rows least
+AsksThis name rows (Select expression) = (name ≡ codes "select") × IsTextFor (codes "expression") rows expression
 
 -- the line is the command, with what was found for it
 abbrev pub Says : Text → List Row → Line → Type 0

@@ -9,6 +9,8 @@ pub enum Asked {
     Made(How),
     /// Which numbers stand in so many of them or more: how many, as it was written.
     AtLeast(String),
+    /// Of which numbers an expression is true, as it was written. Each file is then `NAME=FILE`.
+    Select(String),
 }
 
 /// A command, with its arguments: what is asked of the lists in these files is to be written.

@@ -9,6 +9,7 @@ pub fn meant(word: &str) -> Option<&'static str> {
         "difference" | "diff" | "minus" | "sub" | "except" | "without" | "not" => Some("subtract"),
         "symmetric-difference" | "symdiff" => Some("xor"),
         "at-least" | "threshold" | "majority" => Some("atleast"),
+        "where" | "expression" | "expr" | "eval" | "query" => Some("select"),
         "validate" | "verify" | "lint" => Some("check"),
         "unpack" | "cat" | "dump" => Some("list"),
         "version" => Some("--version"),

@@ -14,8 +14,8 @@ pub const PROGRAM: &str = "Intersects, unites and subtracts lists of numbers of 
 /// The program, on `rhkeys --help` alone.
 pub const PROGRAM_AT_LENGTH: &str = "\
 Makes one list of several lists of numbers, of any length: what stands in all of them, in any, in
-the first alone, in an odd number of them, in at least so many. `rhkeys COMMAND --help` says what a
-command reads and writes.
+the first alone, in an odd number of them, in at least so many, or in those of which an expression
+is true. `rhkeys COMMAND --help` says what a command reads and writes.
 
 `rhkeys check`, `rhkeys pack`, `rhkeys list` and `rhkeys split` are the commands of `rhpack`, which
 checks lists, makes key files for rhset and texts of them, and splits long lists: see
@@ -86,8 +86,33 @@ Example:
   rhkeys atleast 2 spring.txt summer.txt autumn.txt > again.txt",
 };
 
+/// The command `select`.
+pub const SELECT: Texts = Texts {
+    about: "Writes the numbers of which an expression of named lists is true",
+    at_length: "\
+Reads lists of numbers, at most 64, each with a name, and writes those numbers of which EXPRESSION
+is true, each once and in rising order, one a line. A name is true of the numbers of its list.
+
+  A & B   what stands in both
+  A | B   what stands in one of them, or in both
+  A - B   what stands in the first, and not in the second
+  A ^ B   what stands in one of them, and not in both
+  ( A )   what stands between the parentheses, first
+
+`&` binds closest. The others bind alike, and are read from left to right: `a | b - c & d` is
+`(a | b) - (c & d)`. A shell needs quotes round it. A name is of letters, digits and `_`; each has
+to stand in EXPRESSION, which has at most 4096 bytes. A number that stands in no list is never
+written.
+
+Example:
+  rhkeys select '(a & b) - c' a=spring.txt b=summer.txt c=returned.txt > kept.txt",
+};
+
 /// The argument K of `atleast`.
 pub const LEAST: &str = "In how many lists a number stands: from 1 to the number of FILEs";
+
+/// The argument EXPRESSION of `select`.
+pub const EXPRESSION: &str = "What is true of the numbers that are written, by the names of lists";
 
 /// The argument `--workers`.
 pub const WORKERS: &str =
@@ -102,6 +127,10 @@ pub const PACKED: &str = "Write a key file, and not a text";
 /// The argument FILE of a command on lists.
 pub const LIST_FILES: &str = "Texts of numbers or key files; - is standard input";
 
+/// The argument NAME=FILE of `select`.
+pub const NAMED_FILES: &str =
+    "The name of a list, and its file: a text of numbers or a key file; - is standard input";
+
 /// What the commands on lists read.
 pub const LISTS: &str = "\
 A FILE is a text of numbers, or a key file of either version, which its first four bytes tell. A
@@ -110,7 +139,7 @@ before and after it. A line with no more than these is skipped, and so is one th
 Numbers may come in any order and any number of times. A line may end with CR LF; the last may lack
 its LF. A byte order mark at the head is passed by.
 
-One FILE alone is taken by `union`, which sorts it, and by `atleast`.
+One FILE alone is taken by `union`, which sorts it, by `atleast` and by `select`.
 
 Nothing is written where a list is refused: the first one that is is told, with its first bad line.
 The lists are held in memory: at most 24 bytes for each number of all lists, 32 MB, and 8 MB for

@@ -5,9 +5,10 @@ ghost use Rattle.clap.specs.Words.{app_of, fault_of, found_of, rows_of};
 ghost use Rattle.clap.specs.Words.{subcommand_of, subcommand_rows_of};
 ghost use Rattle.rh_arguments.specs.Faults.{IsOneOf};
 ghost use Rattle.rh_arguments.specs.Words.{Finds, IsArg, texts_of};
-ghost use Rattle.rh_key_commands.specs.Line.{Asks, AsksLists, HasArguments, HasLeast, IsCommand};
+ghost use Rattle.rh_key_commands.specs.Line.{Asks, AsksLists, HasArguments, HasWith, IsCommand};
 ghost use Rattle.rh_key_commands.specs.Line.{Says, atleast_app, flagged_app, form_asked};
 ghost use Rattle.rh_key_commands.specs.Line.{lists_app, lists_rule, name_of, rhkeys_app};
+ghost use Rattle.rh_key_commands.specs.Line.{select_app};
 
 use crate::asked::{Asked, Line};
 use crate::help::{self, Texts};
@@ -49,6 +50,7 @@ fn line_in(alloc: Global, matches: &ArgMatches<'_>) -> Result<Line, AllocError>
         Some(("subtract", given)) => lists_asked(alloc, How::Subtract, given),
         Some(("xor", given)) => lists_asked(alloc, How::Xor, given),
         Some(("atleast", given)) => atleast_asked(alloc, given),
+        Some(("select", given)) => select_asked(alloc, given),
         _ => unreachable!(),
     }
 }
@@ -61,11 +63,19 @@ fn lists_asked(alloc: Global, how: How, given: &ArgMatches<'_>) -> Result<Line, 
 }
 
 fn atleast_asked(alloc: Global, given: &ArgMatches<'_>) -> Result<Line, AllocError>
-    requires { HasLeast (rows_of (found_of given.now)) }
+    requires { HasWith (codes "least") (rows_of (found_of given.now)) }
     ensures { IfOk result (λ l. Says (codes "atleast") (rows_of (found_of given.now)) l) }
 {
     let least = text(alloc, given, "least")?;
     line_of(alloc, Asked::AtLeast(least), given)
+}
+
+fn select_asked(alloc: Global, given: &ArgMatches<'_>) -> Result<Line, AllocError>
+    requires { HasWith (codes "expression") (rows_of (found_of given.now)) }
+    ensures { IfOk result (λ l. Says (codes "select") (rows_of (found_of given.now)) l) }
+{
+    let expression = text(alloc, given, "expression")?;
+    line_of(alloc, Asked::Select(expression), given)
 }
 
 /// What is asked, with what all commands on lists are given.
@@ -118,14 +128,16 @@ fn command<'a>(alloc: Global) -> Result<Command<'a>, AllocError>
     let with_union = with_subcommand(with_intersect, union);
     let with_subtract = with_subcommand(with_union, subtract);
     let with_xor = with_subcommand(with_subtract, xor);
-    with_subcommand(with_xor, atleast_command(alloc))
+    let atleast = atleast_command(alloc);
+    let with_atleast = with_subcommand(with_xor, atleast);
+    with_subcommand(with_atleast, select_command(alloc))
 }
 
 fn lists_command<'a>(alloc: Global, name: &'a str, texts: &Texts) -> Result<Command<'a>, AllocError>
     ensures { IfOk result (λ c. app_of c ≡ lists_app name.now) }
 {
     flagged(alloc, name, texts)?
-        .arg(lists_arg(alloc))?
+        .arg(lists_arg(alloc, "FILE", help::LIST_FILES))?
         .arg(skip_arg(alloc))
 }
 
@@ -134,7 +146,16 @@ fn atleast_command<'a>(alloc: Global) -> Result<Command<'a>, AllocError>
 {
     flagged(alloc, "atleast", &help::ATLEAST)?
         .arg(text_arg(alloc, "least", "K", help::LEAST))?
-        .arg(lists_arg(alloc))?
+        .arg(lists_arg(alloc, "FILE", help::LIST_FILES))?
+        .arg(skip_arg(alloc))
+}
+
+fn select_command<'a>(alloc: Global) -> Result<Command<'a>, AllocError>
+    ensures { IfOk result (λ c. app_of c ≡ select_app) }
+{
+    flagged(alloc, "select", &help::SELECT)?
+        .arg(text_arg(alloc, "expression", "EXPRESSION", help::EXPRESSION))?
+        .arg(lists_arg(alloc, "NAME=FILE", help::NAMED_FILES))?
         .arg(skip_arg(alloc))
 }
 
@@ -149,12 +170,12 @@ fn flagged<'a>(alloc: Global, name: &'a str, texts: &Texts) -> Result<Command<'a
         .arg(flag_arg(alloc, "packed", help::PACKED))
 }
 
-fn lists_arg<'a>(alloc: Global) -> Arg<'a>
+fn lists_arg<'a>(alloc: Global, name: &'a str, text: &'a str) -> Arg<'a>
     ensures { IsArg lists_rule result }
 {
     Arg::new(alloc, "file")
-        .value_name("FILE")
+        .value_name(name)
         .required(true)
         .action(ArgAction::Append)
-        .help(help::LIST_FILES)
+        .help(text)
 }

@@ -30,6 +30,8 @@ ending_by fault.OneList = CommandLine
 ending_by fault.TwoOutputs = CommandLine
 ending_by (fault.Least lists) = CommandLine
 ending_by fault.TooMany = CommandLine
+ending_by (fault.Word word fault) = CommandLine
+ending_by (fault.Expression fault marked) = CommandLine
 
 -- how the program ends: a fault is as good as told where the reader of the output has gone away
 abbrev pub ending : Result Status Fault → (reader_gone : Bool) → Status

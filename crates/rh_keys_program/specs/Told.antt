@@ -1,4 +1,4 @@
--- What is told of a list that was not read, or is refused, and why.
+-- What is told of a list that was not read, or is refused, and why; and of what `select` was asked with.
 use Rattle.std.specs.Prelude.{◌≡◌, ◌≢◌, ◌⊎◌, ℕ, List, Option, Some, None, slice_get, string_bytes}
 use Rattle.std.specs.declared.io.ErrorKind.{ErrorKind}
 use Rattle.std.specs.declared.io.ErrorKind.TheVariants.{NotFound, PermissionDenied}
@@ -11,6 +11,8 @@ use Rattle.rh_lists.specs.declared.fault.CommandFault.{CommandFault}
 use Rattle.rh_lists.specs.declared.fault.CommandFault.TheVariants as command
 use Rattle.rh_lists.specs.declared.fault.FileFault.{FileFault as CombinedFault}
 use Rattle.rh_lists.specs.declared.fault.FileFault.TheVariants as combined
+use Rattle.rh_expressions.specs.declared.fault.SelectFault.{SelectFault}
+use Rattle.rh_expressions.specs.declared.fault.SelectFault.TheVariants as select
 use Rattle.rh_keys_program.specs.declared.fault.Fault.{Fault}
 use Rattle.rh_keys_program.specs.declared.fault.Fault.TheVariants as fault
 use Rattle.rh_keys_program.specs.declared.fault.Found.{Found}
@@ -81,3 +83,22 @@ abbrev pub TellsCommand : (paths : List (List ℕ)) → CommandFault → Fault �
 TellsCommand paths (command.List index f) told = TellsList (slice_get paths index) f told
 TellsCommand paths command.Memory told = told ≡ fault.Program program.Memory
 TellsCommand paths command.Write told = told ≡ fault.Program program.Write
+
+-- ---- what `select` was asked with
+
+-- this fault is told of the word at this place
+abbrev pub NamesWord : (words : List (List ℕ)) → (place : ℕ) → SelectFault → Fault → Type 0
+NamesWord words place f (fault.Word word g) = (slice_get words place ≡ Some (string_bytes word)) × (g ≡ f)
+NamesWord words place f told = ⊥
+
+-- this fault is told of the text, behind so many bytes of it
+abbrev pub MarksText : (text : List ℕ) → (at : ℕ) → SelectFault → Fault → Type 0
+MarksText text at f (fault.Expression g marked) = (string_bytes marked.text ≡ text) × (marked.at ≡ at) × (g ≡ f)
+MarksText text at f told = ⊥
+
+abbrev pub TellsSelect : (text : List ℕ) → (words : List (List ℕ)) → SelectFault → Fault → Type 0
+TellsSelect text words select.Memory told = told ≡ fault.Program program.Memory
+TellsSelect text words (select.Expression at f) told = MarksText text at (select.Expression at f) told
+TellsSelect text words (select.NoName word) told = NamesWord words word (select.NoName word) told
+TellsSelect text words (select.Twice word) told = NamesWord words word (select.Twice word) told
+TellsSelect text words (select.Unused word) told = NamesWord words word (select.Unused word) told

@@ -1,6 +1,8 @@
 //! Why a run that reads lists ends early, in the words that the user is told.
 
+use crate::marked::Marked;
 use rh_cli::ProgramFault;
+use rh_expressions::SelectFault;
 use rh_key_files::KeyFault;
 use rh_numbers::{Excerpt, TextFault};
 use rh_shelf::ShelfFault;
@@ -35,6 +37,18 @@ pub enum Fault {
     /// Of a number it is known of 64 lists whether it stands there.
     #[error("more than 64 lists: intersect, union, subtract and xor take them")]
     TooMany,
+    /// A word that is to name a list for `select` has this fault.
+    #[error("{word}: {fault}")]
+    Word {
+        word: String,
+        fault: SelectFault,
+    },
+    /// The expression of `select` has this fault.
+    #[error("{fault}{marked}")]
+    Expression {
+        fault: SelectFault,
+        marked: Marked,
+    },
 }
 
 /// What is wrong with a list that was read.

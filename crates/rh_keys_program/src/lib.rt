@@ -12,6 +12,8 @@
 //! - `told_of_input`, `told_of_list`, `with_path`: the very fault is told of what was read, with its
 //!   path where one was named, and a reason that fits; want of memory and a failed write are told
 //!   by themselves, with no path (`specs/Told.antt`).
+//! - `told_of_select`: the very fault is told of the word that has it, or of the expression, where
+//!   its caret stands below the byte that has the fault.
 //!
 //! What real files and streams give and take no contract says.
 #![tactic(auto)]
@@ -19,9 +21,11 @@
 mod fault;
 mod inputs;
 mod lists;
+mod marked;
 mod status;
 
 pub use fault::{Fault, Found, InputFault, Place, Reason};
 pub use inputs::{is_input_again, reason_unread, told_of_input};
-pub use lists::{bytes_of, times_named, told_of_list, with_path, workers_of};
+pub use lists::{bytes_of, times_named, told_of_list, told_of_select, with_path, workers_of};
+pub use marked::Marked;
 pub use status::{conclude, reason_unwritten, tell};

@@ -4,11 +4,14 @@ ghost use Rattle.std.specs.Prelude.{◌≡◌, ◌<◌, ◌≤◌, map, min, str
 ghost use Rattle.std.specs.List.{count_by};
 ghost use Rattle.rh_lists.specs.Files.{is_input};
 ghost use Rattle.rh_lists.specs.Paths.{IsInside};
-ghost use Rattle.rh_keys_program.specs.Told.{TellsCommand, TellsList, path_of};
+ghost use Rattle.rh_expressions.specs.Naming.{IsWithin};
+ghost use Rattle.rh_keys_program.specs.Told.{TellsCommand, TellsList, TellsSelect, path_of};
 
 use crate::fault::{Fault, InputFault, Place};
 use crate::inputs::told_of_input;
+use crate::marked::Marked;
 use rh_cli::{ProgramFault, STANDARD_INPUT, size_of};
+use rh_expressions::SelectFault;
 use rh_key_commands::MAX_WORKERS;
 use rh_lists::{CommandFault, FileFault, INPUT, ListFault};
 use std::fs::Files;
@@ -79,4 +82,23 @@ pub fn told_of_list(files: &impl Files, place: Place, fault: FileFault) -> Fault
         FileFault::List(ListFault::Keys(fault)) => InputFault::Keys(fault),
     };
     told_of_input(files, place, fault)
+}
+
+/// What is told of this fault of what `select` was asked with. Want of memory is no fault of that.
+pub fn told_of_select(text: String, mut words: Vec<String>, fault: SelectFault) -> Fault
+    requires { IsWithin (vec_len words) fault }
+    ensures { TellsSelect (string_bytes text) (map string_bytes words.items) fault result }
+{
+    match fault {
+        SelectFault::Memory => Fault::Program(ProgramFault::Memory),
+        SelectFault::Expression { at, .. } => Fault::Expression {
+            fault,
+            marked: Marked { text, at },
+        },
+        SelectFault::NoName { word } | SelectFault::Twice { word } | SelectFault::Unused { word } =>
+            Fault::Word {
+                word: words.swap_remove(word),
+                fault,
+            },
+    }
 }

@@ -25,6 +25,7 @@ impl Fault {
             Fault::Input { fault, .. } => status_of_input(fault),
             Fault::InputTwice | Fault::OneList | Fault::TwoOutputs => Status::CommandLine,
             Fault::Least { .. } | Fault::TooMany => Status::CommandLine,
+            Fault::Word { .. } | Fault::Expression { .. } => Status::CommandLine,
         }
     }
 }

@@ -11,7 +11,8 @@ use Rattle.rh_combine.specs.declared.how.How.TheVariants.{Intersect, Union, Subt
 use Rattle.rh_combine.specs.Combine.{answer, has, meant}
 use Rattle.rh_combine.proofs.Meaning.{contains-meant, either, has-filter, has_some, held, holds, listed, same, stands_is}
 use Rattle.rh_combine.proofs.Rising.{of_rising, rising_of_part}
-use Rattle.rh_questions.specs.Selections.{chosen, in_turn, joined, row_of}
+use Rattle.rh_expressions.specs.Formulas.{joined}
+use Rattle.rh_questions.specs.Selections.{chosen, in_turn, row_of}
 
 pub chosen_has : (test : List Bool → Bool) (lists : List (List ℕ)) (k : ℕ) → has (chosen test lists) k ≡ (list_any (λ keys. has keys k) lists && test (row_of lists k))
 chosen_has test lists k =

@@ -3,6 +3,7 @@ use Rattle.std.specs.Prelude.{◌≡◌, ℕ, Bool, true, false, cond, List, [],
 use Rattle.std.proofs.Common.{◌∙◌, ap, sym, refl}
 use Rattle.std.proofs.lemmas.List.Kept.{IsStrictlyIncreasing-filter}
 use Rattle.rh_combine.specs.Combine.{answer, has, meant}
+use Rattle.rh_combine.specs.declared.how.How.{How}
 use Rattle.rh_combine.specs.declared.how.How.TheVariants.{Union}
 use Rattle.rh_combine.proofs.Meaning.{has-filter}
 use Rattle.rh_combine.proofs.RangeLaws.{answer_of}
@@ -10,6 +11,9 @@ use Rattle.rh_combine.proofs.Rising.{rising_increase}
 use Rattle.rh_combine_workers.specs.Questions.{IsByNumber}
 use Rattle.rh_questions.specs.declared.selection.Selection.{Selection}
 use Rattle.rh_questions.specs.Selections.{chosen, row_of, selected, wants}
+use Rattle.rh_questions.specs.Wanted.{wanted}
+use Rattle.rh_questions.specs.declared.wanted.Wanted.{Wanted}
+use Rattle.rh_questions.specs.declared.wanted.Wanted.TheVariants.{Made, Selected}
 
 -- ---- two tests, one after the other
 
@@ -51,3 +55,13 @@ chosen_by_number test = record {
 
 pub selected_by_number : (selection : Selection) → IsByNumber (selected selection)
 selected_by_number selection = chosen_by_number (wants selection)
+
+pub made_by_number : (how : How) → IsByNumber (answer how)
+made_by_number how = record {
+  of_part = λ passes. answer_of passes how;
+  rises = λ lists. rising_increase (meant how lists);
+}
+
+pub wanted_by_number : (question : Wanted) → IsByNumber (wanted question)
+wanted_by_number (Made how) = made_by_number how
+wanted_by_number (Selected selection) = selected_by_number selection

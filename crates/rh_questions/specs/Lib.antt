@@ -4,3 +4,5 @@ pub mod ByNumber
 pub mod Rows
 -- Selections: which numbers of lists are wanted
 pub mod Selections
+-- Wanted: what is asked of lists, in one type
+pub mod Wanted

@@ -1,11 +1,10 @@
 -- Which numbers of lists are wanted, by the lists in which each stands.
-use Rattle.std.specs.Prelude.{ℕ, ◌+◌, ◌*◌, nat_le, not, ◌&&◌, ◌||◌, ◌==◌, cond, Bool, false, List, [], ◌∷◌, filter, map, length, get_or, count_by}
+use Rattle.std.specs.Prelude.{ℕ, ◌+◌, ◌*◌, nat_le, ◌==◌, cond, Bool, false, List, [], ◌∷◌, filter, map, length, count_by}
 use Rattle.std.specs.List.{fold}
 use Rattle.rh_combine.specs.declared.how.How.{How}
-use Rattle.rh_combine.specs.declared.how.How.TheVariants.{Intersect, Union, Subtract, Xor}
+use Rattle.rh_combine.specs.declared.how.How.TheVariants.{Union}
 use Rattle.rh_combine.specs.Combine.{answer, has}
-use Rattle.rh_questions.specs.declared.selection.Expression.{Expression}
-use Rattle.rh_questions.specs.declared.selection.Expression.TheVariants.{List as InList, Joined'}
+use Rattle.rh_expressions.specs.Formulas.{formula_of, is_true, joined}
 use Rattle.rh_questions.specs.declared.selection.Selection.{Selection}
 use Rattle.rh_questions.specs.declared.selection.Selection.TheVariants.{AtLeast, Where}
 
@@ -13,22 +12,10 @@ use Rattle.rh_questions.specs.declared.selection.Selection.TheVariants.{AtLeast,
 abbrev pub row_of : List (List ℕ) → ℕ → List Bool
 row_of lists k = map (λ keys. has keys k) lists
 
--- both; one or another; the first and not the second; one and not the other
-abbrev pub joined : How → Bool → Bool → Bool
-joined Intersect a b = a && b
-joined Union a b = a || b
-joined Subtract a b = a && not b
-joined Xor a b = (a && not b) || (b && not a)
-
--- what an expression is of a number with this row
-abbrev pub is_true : Expression → List Bool → Bool
-is_true (InList i) row = get_or row i false
-is_true (Joined' how p a q b) row = joined how (is_true a row) (is_true b row)
-
 -- whether a number with this row is wanted
 abbrev pub wants : Selection → List Bool → Bool
 wants (AtLeast n) row = nat_le n (count_by (λ b. b) row)
-wants (Where expression) row = is_true expression row
+wants (Where expression) row = is_true (formula_of expression) row
 
 -- the numbers of the lists of whose row the test is true, in rising order
 abbrev pub chosen : (List Bool → Bool) → List (List ℕ) → List ℕ

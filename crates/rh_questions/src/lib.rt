@@ -4,7 +4,7 @@
 //! `rhkeys` stands on it.
 //!
 //! ```text
-//! let most = Selection::AtLeast(2);
+//! let most = Wanted::Selected(Selection::AtLeast(2));
 //! most.ask(alloc, &[&[1, 9], &[9, 9, 4], &[4, 17]])?    // 4, 9
 //! write_answer(&team, &most, Form::Lines, lists, &mut writer, &mut progress)?
 //! compare(alloc, &[&[1, 9], &[9, 9, 4]])?               // [0, 1, 1, 1]: none; 1; 4; 9
@@ -19,7 +19,8 @@
 //!
 //! - `Selection` is a `Question`: `ask` answers the rising list of those numbers of the lists whose
 //!   row is wanted (`specs/Selections.antt`). So lists may be cut into parts, and by several
-//!   workers the same is written as by one.
+//!   workers the same is written as by one. `Wanted` is that, or what is made of lists as
+//!   `Intersect` makes it, so that one question stands for all that `rhkeys` is asked.
 //! - `compare`: how many numbers stand in each combination of up to 16 lists. `tallies_join`: the
 //!   counts of two ranges add up to those of both.
 //! - `members`: a number is in what is wanted exactly where it stands in one of the lists and its
@@ -34,8 +35,10 @@ mod limits;
 mod rows;
 mod selection;
 mod value;
+mod wanted;
 
 pub use comparing::compare;
 pub use laws::{made_by_rows, members, tallies_join};
 pub use limits::{MOST_COMPARED, MOST_LISTS};
-pub use selection::{Expression, Selection};
+pub use selection::Selection;
+pub use wanted::Wanted;

@@ -1,11 +1,13 @@
 //! What is true of a number that stands in these lists: bit i of a word says it of list i.
 
 ghost use Rattle.std.specs.Prelude.{◌≡◌, Bool, List, false, get_or};
-ghost use Rattle.rh_questions.specs.Selections.{code, is_true, joined, wants};
+ghost use Rattle.rh_expressions.specs.Formulas.{formula_of, is_true, joined};
+ghost use Rattle.rh_questions.specs.Selections.{code, wants};
 
 use crate::limits::MOST_LISTS;
-use crate::selection::{Expression, Selection};
+use crate::selection::Selection;
 use rh_combine::How;
+use rh_expressions::Expression;
 
 /// Whether the number stands in the list of this index.
 fn stands_in(lists: u64, index: usize) -> bool
@@ -28,7 +30,8 @@ fn joined(how: How, first: bool, second: bool) -> bool
 
 /// Whether the expression is true of the number.
 fn is_true(expression: &Expression, lists: u64) -> bool
-    ensures { (row : List Bool) → lists ≡ code row → result ≡ is_true expression.now row }
+    ensures { (row : List Bool) → lists ≡ code row →
+        result ≡ is_true (formula_of expression.now) row }
 {
     match expression {
         Expression::List(index) => stands_in(lists, *index),

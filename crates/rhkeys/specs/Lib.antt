@@ -1,1 +1,4 @@
-pub mod Asked
+-- Ends: how a command on lists ends
+pub mod Ends
+-- Request: what a line asks of which lists, or why it is refused
+pub mod Request

@@ -2,8 +2,10 @@
 #![tactic(auto)]
 
 mod lists;
+mod request;
 
 use lists::ask;
+use request::request_of;
 use rh_arguments::LineFault;
 use rh_bytes::Progress;
 use rh_cli::{Outlet, ProgramFault, ProgressLine, Status, answer, hold_closed, words};
@@ -38,8 +40,9 @@ where
     let words = words(rt)?;
     match line(rt.alloc(), &words) {
         Ok(line) => {
-            progress.expect(bytes_of(rt, &line.files));
-            ask(rt, outlet, line, progress)
+            let request = request_of(rt.alloc(), line)?;
+            progress.expect(bytes_of(rt, &request.run.paths));
+            ask(rt, outlet, request, progress)
         }
         Err(LineFault::Words(error)) => {
             let status = answer(rt, &error)?;

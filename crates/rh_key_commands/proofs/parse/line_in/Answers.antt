@@ -23,7 +23,8 @@ unreachable-requires c =
           ] in
           elim named.2 [
             | inl lists ↦ absurd (unnamed lists.0 lists.1)
-            | inr atleast ↦ grind (arith, named.1, atleast.0, w.in_default.is)
+            | inr (inl atleast) ↦ grind (arith, named.1, atleast.0, w.in_default.is)
+            | inr (inr select) ↦ grind (arith, named.1, select.0, w.in_default.is)
           ]
       | in_default-via-in_default w ↦ grind (arith, named.1, w.in_default.is)
     ]

@@ -1,0 +1,4 @@
+pub mod Formulas
+pub mod Grammar
+pub mod Naming
+pub mod Tokens
