@@ -2,7 +2,7 @@
 //! another has, what only the first has, what an odd number of them has, or what another `Question`
 //! asks for.
 //!
-//! `rh_checks` and `rh_list_commands` stand on it.
+//! `rh_checks` and `rh_list_commands` stand on it, and `rh_questions`, which counts by parts.
 //!
 //! ```text
 //! write_answer(&team, &How::Intersect, Form::Lines, lists, &mut writer, &mut progress)?
@@ -20,6 +20,7 @@
 //!   It answers how many numbers they are. `Write` comes only where the writer's count of failures
 //!   rose, and else that did not rise.
 //! - `workers_agree`: two such runs that end well wrote the same.
+//! - `lists_of_part`: the keys of each list that stand in a part, for who asks what is no `Question`.
 #![tactic(auto)]
 
 mod fault;
@@ -32,6 +33,7 @@ mod writing;
 
 pub use fault::CombineFault;
 pub use laws::workers_agree;
+pub use part::{lists_of_part, slices_of};
 pub use question::Question;
 pub use rh_combine::{Form, How};
 pub use writing::write_answer;

@@ -1,6 +1,7 @@
-//! What is answered of the keys of one part, worked out by one worker.
+//! The keys of one part, and what is answered of them by one worker.
 
 ghost use Rattle.std.specs.Prelude.{◌≡◌, ℕ, List, ◌+◌, ◌<◌, All, IfOk, length, map};
+ghost use Rattle.rh_layout.specs.Key.{IsKey};
 ghost use Rattle.rh_cutting.specs.Borders.{between, part_of};
 ghost use Rattle.rh_cutting.specs.Cut.{AreLists};
 
@@ -49,8 +50,29 @@ fn all_gathered(
     Ok(all)
 }
 
-fn slices_of(alloc: Global, lists: &[Vec<u64>]) -> Result<Vec<&[u64]>, AllocError>
-    ensures { IfOk result (λ v. map (λ k. k.now) v.items ≡ map (λ k. k.items) lists.now) }
+/// The keys of each list that stand in a part.
+pub fn lists_of_part(
+    alloc: Global,
+    cut: &CutLists,
+    part: usize,
+) -> Result<Vec<Vec<u64>>, AllocError>
+    requires part { part + 1 < length cut.now.borders.values.items }
+    ensures many { IfOk result (λ v. length v.items ≡ length cut.now.lists.items) }
+    ensures keys { IfOk result (λ v. All (λ l. All IsKey l.items) v.items) }
+    ensures each { (lists : List (List ℕ)) → AreLists cut.now lists →
+        IfOk result (λ v. map (λ l. l.items) v.items
+        ≡ map (between cut.now.borders.values.items part (part + 1)) lists) }
+{
+    all_gathered(alloc, &cut.lists, part)
+}
+
+/// Lists of keys, to be read where they stand.
+pub fn slices_of(alloc: Global, lists: &[Vec<u64>]) -> Result<Vec<&[u64]>, AllocError>
+    requires { All (λ l. All IsKey l.items) lists.now }
+    ensures many { IfOk result (λ v. length v.items ≡ length lists.now) }
+    ensures keys { IfOk result (λ v. All (λ l. All IsKey l.now) v.items) }
+    ensures same { IfOk result (λ v.
+        map (λ k. k.now) v.items ≡ map (λ k. k.items) lists.now) }
 {
     let mut slices = Vec::with_capacity(alloc, lists.len())?;
     for keys in lists {
@@ -72,7 +94,7 @@ pub(crate) fn of_part<Q: Question>(
         IfOk result (λ v. v.items
         ≡ between cut.now.borders.values.items part (part + 1) (Q.answer question.now lists)) }
 {
-    let mine = all_gathered(alloc, &cut.lists, part)?;
+    let mine = lists_of_part(alloc, cut, part)?;
     let slices = slices_of(alloc, &mine)?;
     let found = question.ask(alloc, &slices)?;
     Ok(found)

@@ -1,5 +1,5 @@
 -- Which numbers of lists are wanted, by the lists in which each stands.
-use Rattle.std.specs.Prelude.{ℕ, ◌+◌, ◌*◌, nat_le, ◌==◌, cond, Bool, false, List, [], ◌∷◌, filter, map, length, count_by}
+use Rattle.std.specs.Prelude.{ℕ, ◌+◌, ◌*◌, nat_le, cond, Bool, false, List, [], ◌∷◌, filter, map, count_by}
 use Rattle.std.specs.List.{fold}
 use Rattle.rh_combine.specs.declared.how.How.{How}
 use Rattle.rh_combine.specs.declared.how.How.TheVariants.{Union}
@@ -36,7 +36,3 @@ in_turn how (first ∷ others) = fold (joined how) first others
 abbrev pub code : List Bool → ℕ
 code [] = 0
 code (b ∷ row) = cond b 1 0 + 2 * code row
-
--- how many numbers stand in just these lists
-abbrev pub tally : List (List ℕ) → (combination : ℕ) → ℕ
-tally lists c = length (chosen (λ row. code row == c) lists)

@@ -1,26 +1,34 @@
 //! How many numbers of lists in memory stand in just these of them.
 
-ghost use Rattle.std.specs.Prelude.{◌≡◌, ℕ, ◌^◌, ◌<◌, ◌≤◌, ◌==◌, All, IfOk, get_or, length, map};
+ghost use Rattle.std.specs.Prelude.{◌≡◌, ℕ, ◌+◌, ◌^◌, ◌<◌, ◌≤◌, ◌==◌, All, IfOk, length, map};
 ghost use Rattle.std.specs.List.{count_by};
 ghost use Rattle.rh_layout.specs.Key.{IsKey};
-ghost use Rattle.rh_questions.specs.Selections.{tally};
+ghost use Rattle.rh_questions.specs.Tallies.{AreTallies, IsCount};
 ghost use Rattle.rh_questions.specs.declared.limits.TheConstants.{MOST_COMPARED};
 
 use crate::rows::{Row, rows_of};
 use std::alloc::{AllocError, Global};
 
-/// How many of the rows have each combination of lists, of so many that there may be.
-fn count_rows(alloc: Global, rows: &[Row], combinations: usize) -> Result<Vec<u64>, AllocError>
-    requires { All (λ r. r.lists < combinations) rows.now }
-    ensures len { IfOk result (λ v. length v.items ≡ combinations) }
-    ensures counts { IfOk result (λ v. (c : ℕ) → c < combinations →
-        get_or v.items c 0 ≡ count_by (λ r. r.lists == c) rows.now) }
+/// A count of nothing for each combination of so many lists.
+pub(crate) fn no_counts(alloc: Global, lists: usize) -> Result<Vec<u64>, AllocError>
+    requires { lists ≤ MOST_COMPARED }
+    ensures len { IfOk result (λ v. length v.items ≡ 2 ^ lists) }
+    ensures none { IfOk result (λ v. (c : ℕ) → c < 2 ^ lists → IsCount v.items c 0) }
 {
-    let mut counts = vec![in alloc; 0u64; combinations]?;
+    vec![in alloc; 0u64; 1 << lists]
+}
+
+/// Counts each row at the place of its combination of lists. A count stops at the greatest `u64`.
+pub(crate) fn count_rows(rows: &[Row], counts: &mut Vec<u64>)
+    requires { All (λ r. r.lists < length counts.old.items) rows.now }
+    ensures len { length counts.new.items ≡ length counts.old.items }
+    ensures counts { (c n : ℕ) → c < length counts.old.items → IsCount counts.old.items c n →
+        IsCount counts.new.items c (n + count_by (λ r. r.lists == c) rows.now) }
+{
     for row in rows {
-        counts[row.lists as usize] += 1;
+        let place = row.lists as usize;
+        counts[place] = counts[place].saturating_add(1);
     }
-    Ok(counts)
 }
 
 /// How many numbers stand in each combination of the lists, which may be of any length, with
@@ -29,10 +37,10 @@ fn count_rows(alloc: Global, rows: &[Row], combinations: usize) -> Result<Vec<u6
 pub fn compare(alloc: Global, lists: &[&[u64]]) -> Result<Vec<u64>, AllocError>
     requires few { length lists.now ≤ MOST_COMPARED }
     requires keys { All (λ l. All IsKey l.now) lists.now }
-    ensures len { IfOk result (λ v. length v.items ≡ 2 ^ length lists.now) }
-    ensures counts { IfOk result (λ v. (c : ℕ) → c < 2 ^ length lists.now →
-        get_or v.items c 0 ≡ tally (map (λ l. l.now) lists.now) c) }
+    ensures { IfOk result (λ v. AreTallies (map (λ l. l.now) lists.now) v.items) }
 {
     let rows = rows_of(alloc, lists, 0)?;
-    count_rows(alloc, &rows, 1 << lists.len())
+    let mut counts = no_counts(alloc, lists.len())?;
+    count_rows(&rows, &mut counts);
+    Ok(counts)
 }

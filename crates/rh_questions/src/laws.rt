@@ -1,12 +1,17 @@
 //! Laws of what is wanted of lists. They do nothing when they run.
 
-ghost use Rattle.std.specs.Prelude.{◌≡◌, ◌≤◌, ◌+◌, ◌&&◌, ℕ, List, map};
+ghost use Rattle.std.specs.Prelude.{◌≡◌, ◌<◌, ◌≤◌, ◌+◌, ◌^◌, ◌&&◌, ℕ, All, List, length};
+ghost use Rattle.std.specs.Prelude.{map, sum_by};
 ghost use Rattle.std.specs.List.{list_any};
 ghost use Rattle.std.specs.List.Sorted.{IsStrictlyIncreasing};
 ghost use Rattle.rh_layout.specs.Range.{within};
 ghost use Rattle.rh_combine.specs.Combine.{answer, has};
 ghost use Rattle.rh_combine.specs.declared.how.How.{How as Made};
-ghost use Rattle.rh_questions.specs.Selections.{chosen, in_turn, row_of, selected, tally, wants};
+ghost use Rattle.rh_combine.specs.declared.how.How.TheVariants.{Union};
+ghost use Rattle.rh_questions.specs.Selections.{chosen, in_turn, row_of, selected, wants};
+ghost use Rattle.rh_questions.specs.Rankings.{IsRanking};
+ghost use Rattle.rh_questions.specs.declared.ranking.Combination.{Combination as Ranked};
+ghost use Rattle.rh_questions.specs.Tallies.{AreTallies, tally};
 ghost use Rattle.rh_questions.specs.declared.selection.Selection.{Selection as Wanted};
 
 /// Which numbers are wanted of lists: the rising list of those that stand in one of them, and whose
@@ -35,4 +40,18 @@ pub fn tallies_join(from: u64, middle: u64, to: u64)
 pub fn made_by_rows()
     ensures { (how : Made) (lists : List (List ℕ)) →
         answer how lists ≡ chosen (in_turn how) lists }
+{}
+
+/// The counts of all combinations of lists add up to how many numbers stand in any of them.
+pub fn tallies_add_up()
+    ensures { (lists : List (List ℕ)) (counts : List ℕ) → AreTallies lists counts →
+        sum_by (λ n. n) counts ≡ length (answer Union lists) }
+{}
+
+/// Two rankings of the same counts are one: which combination comes first, and which next, is told
+/// by the counts alone.
+pub fn one_ranking()
+    ensures { (counts : List ℕ) (first second : List Ranked) → length counts ≤ 2 ^ 64 →
+        All (λ n. n < 2 ^ 64) counts →
+        IsRanking counts first → IsRanking counts second → first ≡ second }
 {}
