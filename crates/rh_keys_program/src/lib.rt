@@ -12,8 +12,8 @@
 //! - `told_of_input`, `told_of_list`, `with_path`: the very fault is told of what was read, with its
 //!   path where one was named, and a reason that fits; want of memory and a failed write are told
 //!   by themselves, with no path (`specs/Told.antt`).
-//! - `told_of_select`: the very fault is told of the word that has it, or of the expression, where
-//!   its caret stands below the byte that has the fault.
+//! - `told_of_select`: the very fault is told of the word that has it, or of the expression, with
+//!   the number of bytes before it. Where its caret stands is tested, and not proved.
 //!
 //! What real files and streams give and take no contract says.
 #![tactic(auto)]

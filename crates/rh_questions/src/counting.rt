@@ -165,8 +165,8 @@ fn count_all<T: Threads + Sync, P: Progress>(
 /// How many numbers stand in each combination of the lists, as `compare` has it. That depends
 /// neither on the number of workers nor on the pieces of a list.
 ///
-/// It takes at most some 24 bytes for each number of the lists, and 8 for each combination and
-/// worker. Progress is told once a round.
+/// Beside what cutting the lists takes, each worker holds the rows of a part, and 8 bytes for each
+/// combination. Progress is told once a round.
 pub fn compare_lists<T: Threads + Sync, P: Progress>(
     team: &Team<'_, T>,
     lists: Vec<KeyList>,

@@ -1,6 +1,6 @@
 //! The combinations of lists that occur, the most first.
 
-ghost use Rattle.std.specs.Prelude.{◌≡◌, ◌≤◌, ◌^◌, IfOk, length};
+ghost use Rattle.std.specs.Prelude.{◌≡◌, IfOk};
 ghost use Rattle.rh_questions.specs.Rankings.{IsRanking, occurring, rank};
 
 use std::alloc::{AllocError, Global};
